@@ -44,10 +44,6 @@ other_acts number cores clock v w p x y s e f h =
     let f' = subst (λ (q : Part). IsFitting number cores q) e f in
     subst (λ (q : Part). Acts number cores clock v w q (part.OtherCore y) s) (sym e) (f'.0, f'.1, h f'.0 f'.1)
 
-pub other_acts_ok : (number cores clock : ℕ) (v w : ℕ → LinkView) (p : Part) (x y : OtherCore) (r : Result Stamped Refusal) → p ≡ part.OtherCore x → IsFitting number cores p → IfOk r (λ s. (entry : ℕ) → number ≡ suc entry → ActsOther entry clock v w x y s) → IfOk r (Acts number cores clock v w p (part.OtherCore y))
-other_acts_ok number cores clock v w p x y (Ok s) e f h = other_acts number cores clock v w p x y s e f h
-other_acts_ok number cores clock v w p x y (Err r) e f h = tt
-
 pub other_acts_on : (number cores clock : ℕ) (v w : ℕ → LinkView) (p : Part) (x y : OtherCore) (r : Result (Option Stamped) Refusal) → p ≡ part.OtherCore x → IsFitting number cores p → OnEvent r (λ s. (entry : ℕ) → number ≡ suc entry → ActsOther entry clock v w x y s) → OnEvent r (Acts number cores clock v w p (part.OtherCore y))
 other_acts_on number cores clock v w p x y (Ok (Some s)) e f h = other_acts number cores clock v w p x y s e f h
 other_acts_on number cores clock v w p x y (Ok None) e f h = tt

@@ -20,3 +20,8 @@ abbrev pub OnIdle : {E : Type 0} → Result (Option Stamped) E → Type 0 → Ty
 OnIdle (Ok (Some s)) P = Unit {0}
 OnIdle (Ok None) P = P
 OnIdle (Err e) P = Unit {0}
+
+-- what a call comes to that puts its event, if it does one, into a place that was empty
+abbrev pub outcome : {E : Type 0} → Result (Unit {0}) E → Option Stamped → Result (Option Stamped) E
+outcome (Ok done) event = Ok event
+outcome (Err e) event = Err e

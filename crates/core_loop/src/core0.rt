@@ -1,6 +1,6 @@
 //! The events of core 0.
 
-ghost use Rattle.std.specs.Prelude.{◌≡◌, ◌≢◌, ◌≤◌, ◌<◌, ◌+◌, max, ◌∷◌, ◌++◌, [], ℕ, suc, true, false, Some, IfOk, IfErr, IfSome, IfNone, OnErr, OnOk, slice_get};
+ghost use Rattle.std.specs.Prelude.{◌≡◌, ◌≢◌, ◌≤◌, ◌<◌, ◌+◌, max, ◌∷◌, ◌++◌, [], ℕ, suc, true, false, Some, IfOk, IfErr, IfSome, IfNone, OnErr, OnOk, None, slice_get};
 ghost use Rattle.filter_table.specs.declared.operation.Op.{Op as GhostOp};
 ghost use Rattle.monitor_2pc.specs.Coordinators.{Idle};
 ghost use Rattle.monitor_2pc.specs.Starting.{WasStaged};
@@ -9,13 +9,14 @@ ghost use Rattle.world_events.specs.declared.event.Event.TheVariants.{Start, Sta
 ghost use Rattle.core_loop.specs.Carrying.{IsFirst};
 ghost use Rattle.core_loop.specs.Sending.{CanBeSent, IsMade};
 ghost use Rattle.core_loop.specs.Events.{Acts0, SendsTaken, CannotTake0, CannotStart0};
-ghost use Rattle.core_loop.specs.Outcomes.{OnEvent, OnNone, OnIdle};
+ghost use Rattle.core_loop.specs.Outcomes.{OnEvent, OnNone, OnIdle, outcome};
 ghost use Rattle.core_loop.specs.Turning.{IsUnshortened};
 ghost use Rattle.core_loop.specs.Cores.{begins};
 ghost use Rattle.core_loop.specs.Receipts.{receives};
 ghost use Rattle.core_loop.specs.Beginning.{CanBegin0};
 ghost use Rattle.core_loop.specs.InTurn.{Asks, BeginsInTurn, IsNextInTurn};
 
+use crate::putting::put;
 use crate::queue::next_request;
 use crate::refusal::{Refusal, next_stamp};
 use crate::sending::{Ready, all_ready, can_carry, make_ready, make_short, send};
@@ -45,17 +46,21 @@ pub(crate) fn take<L: Links>(
     peer: u16,
     sent: u64,
     message: Message,
-) -> Result<Stamped, Refusal>
+    done: &mut Option<Stamped>,
+) -> Result<(), Refusal>
+    requires undone { done.old ≡ None }
     requires between { BetweenSteps core.old }
     requires first { IsFirst (L.view links.old peer) (record { stamp = sent; message = message }) }
     requires other { peer ≤ others }
-    ensures acts { IfOk result (Acts0 others clock (L.view links.old) (L.view links.new) core.old core.new) }
-    ensures event { IfOk result (λ s. s.done.event ≡ Take 0 peer false) }
-    ensures links { OnOk result (L.same links.old links.new) }
+    ensures acts { OnEvent (outcome result done.new) (Acts0 others clock (L.view links.old) (L.view links.new) core.old core.new) }
+    ensures event { OnEvent (outcome result done.new) (λ s. s.done.event ≡ Take 0 peer false) }
+    ensures links { OnEvent (outcome result done.new) (λ _. L.same links.old links.new) }
+    ensures some { OnIdle (outcome result done.new) ⊥ }
+    ensures undone { OnErr result (done.new ≡ None) }
     ensures lines { (p : ℕ) → L.flow links.new p ≡ L.flow links.old p }
     ensures between { BetweenSteps core.new }
     ensures why { IfErr result (CannotTake0 others clock peer core.old (record { stamp = sent; message = message }) (L.view links.old)) }
-    ensures same { OnErr result ((core.new ≡ core.old) × (links.new ≡ links.old)) }
+    ensures same { OnNone (outcome result done.new) ((core.new ≡ core.old) × (links.new ≡ links.old)) }
 {
     let sending = match ready_take(core, links, others, clock, peer, sent, &message) {
         Ok(sending) => sending,
@@ -76,13 +81,15 @@ pub(crate) fn take<L: Links>(
         from: peer,
         short: false,
     };
-    Ok(Stamped {
-        stamp,
-        done: Done {
-            event,
-            answer: told.answer,
+    let answer = told.answer;
+    put(
+        done,
+        Stamped {
+            stamp,
+            done: Done { event, answer },
         },
-    })
+    );
+    Ok(())
 }
 
 // Makes ready what core 0 sends of a message once it has taken it. The links that it goes over take messages.
@@ -124,19 +131,22 @@ pub(crate) fn start<L: Links>(
     others: u16,
     clock: u64,
     requests: &mut VecDeque<Op>,
-) -> Result<Stamped, Refusal>
+    done: &mut Option<Stamped>,
+) -> Result<(), Refusal>
+    requires undone { done.old ≡ None }
     requires between { BetweenSteps core.old }
     requires idle { core.old.coordinator.phase ≡ Idle }
     requires some { requests.old.items ≢ [] }
     requires ready { (entry : ℕ) → entry < others → (L.view links.old (suc entry)).ready ≡ true }
-    ensures acts { IfOk result (Acts0 others clock (L.view links.old) (L.view links.new) core.old core.new) }
-    ensures event { IfOk result (λ s. (op : GhostOp) × (s.done.event ≡ Start op) × (requests.old.items ≡ op ∷ requests.new.items)) }
-    ensures links { OnOk result (L.same links.old links.new) }
+    ensures acts { OnEvent (outcome result done.new) (Acts0 others clock (L.view links.old) (L.view links.new) core.old core.new) }
+    ensures event { OnEvent (outcome result done.new) (λ s. (op : GhostOp) × (s.done.event ≡ Start op) × (requests.old.items ≡ op ∷ requests.new.items)) }
+    ensures links { OnEvent (outcome result done.new) (λ _. L.same links.old links.new) }
+    ensures some { OnIdle (outcome result done.new) ⊥ }
     ensures lines { (p : ℕ) → L.flow links.new p ≡ L.flow links.old p }
     ensures between { BetweenSteps core.new }
     ensures why { IfErr result (CannotStart0 clock core.old) }
-    ensures same { OnErr result ((core.new ≡ core.old) × (links.new ≡ links.old)) }
-    ensures same_requests { OnErr result (requests.new ≡ requests.old) }
+    ensures same { OnNone (outcome result done.new) ((core.new ≡ core.old) × (links.new ≡ links.old)) }
+    ensures same_requests { OnNone (outcome result done.new) (requests.new ≡ requests.old) }
 {
     if core.coordinator.last() == u64::MAX {
         return Err(Refusal::Spent);
@@ -157,13 +167,16 @@ pub(crate) fn start<L: Links>(
     };
     let told = core.begin(fault);
     send(links, others, ready);
-    Ok(Stamped {
-        stamp,
-        done: Done {
-            event: Event::Start { op },
-            answer: told.answer,
+    let event = Event::Start { op };
+    let answer = told.answer;
+    put(
+        done,
+        Stamped {
+            stamp,
+            done: Done { event, answer },
         },
-    })
+    );
+    Ok(())
 }
 
 // Makes ready what a start sends.
@@ -193,19 +206,22 @@ pub(crate) fn start_for<L: Links>(
     others: u16,
     clock: u64,
     from: u16,
-) -> Result<Stamped, Refusal>
+    done: &mut Option<Stamped>,
+) -> Result<(), Refusal>
+    requires undone { done.old ≡ None }
     requires between { BetweenSteps core.old }
     requires idle { core.old.coordinator.phase ≡ Idle }
     requires waits { (entry : ℕ) × (op : GhostOp) × HasWaiting core.old from entry op }
     requires inside { from ≤ core.old.coordinator.others }
     requires ready { (entry : ℕ) → entry < others → (L.view links.old (suc entry)).ready ≡ true }
-    ensures acts { IfOk result (Acts0 others clock (L.view links.old) (L.view links.new) core.old core.new) }
-    ensures event { IfOk result (λ s. s.done.event ≡ StartFor from) }
-    ensures links { OnOk result (L.same links.old links.new) }
+    ensures acts { OnEvent (outcome result done.new) (Acts0 others clock (L.view links.old) (L.view links.new) core.old core.new) }
+    ensures event { OnEvent (outcome result done.new) (λ s. s.done.event ≡ StartFor from) }
+    ensures links { OnEvent (outcome result done.new) (λ _. L.same links.old links.new) }
+    ensures some { OnIdle (outcome result done.new) ⊥ }
     ensures lines { (p : ℕ) → L.flow links.new p ≡ L.flow links.old p }
     ensures between { BetweenSteps core.new }
     ensures why { IfErr result (CannotStart0 clock core.old) }
-    ensures same { OnErr result ((core.new ≡ core.old) × (links.new ≡ links.old)) }
+    ensures same { OnNone (outcome result done.new) ((core.new ≡ core.old) × (links.new ≡ links.old)) }
 {
     if core.coordinator.last() == u64::MAX {
         return Err(Refusal::Spent);
@@ -222,13 +238,16 @@ pub(crate) fn start_for<L: Links>(
     };
     let told = core.begin_for(from, fault);
     send(links, others, ready);
-    Ok(Stamped {
-        stamp,
-        done: Done {
-            event: Event::StartFor { core: from },
-            answer: told.answer,
+    let event = Event::StartFor { core: from };
+    let answer = told.answer;
+    put(
+        done,
+        Stamped {
+            stamp,
+            done: Done { event, answer },
         },
-    })
+    );
+    Ok(())
 }
 
 // Makes ready what a start for a core sends.
@@ -259,37 +278,40 @@ pub(crate) fn begin<L: Links>(
     clock: u64,
     last: u16,
     requests: &mut VecDeque<Op>,
-) -> Result<Option<Stamped>, Refusal>
+    done: &mut Option<Stamped>,
+) -> Result<(), Refusal>
+    requires undone { done.old ≡ None }
     requires between { BetweenSteps core.old }
     requires others { core.old.coordinator.others ≡ others }
-    ensures acts { OnEvent result (Acts0 others clock (L.view links.old) (L.view links.new) core.old core.new) }
-    ensures requests { OnEvent result (λ s. requests.old.items ≡ begins s.done.event ++ requests.new.items) }
-    ensures jobs { OnEvent result (λ s. receives s.done.event ≡ []) }
-    ensures whole { OnEvent result (λ s. IsUnshortened s.done.event) }
-    ensures links { OnEvent result (λ s. L.same links.old links.new) }
+    ensures acts { OnEvent (outcome result done.new) (Acts0 others clock (L.view links.old) (L.view links.new) core.old core.new) }
+    ensures requests { OnEvent (outcome result done.new) (λ s. requests.old.items ≡ begins s.done.event ++ requests.new.items) }
+    ensures jobs { OnEvent (outcome result done.new) (λ s. receives s.done.event ≡ []) }
+    ensures whole { OnEvent (outcome result done.new) (λ s. IsUnshortened s.done.event) }
+    ensures links { OnEvent (outcome result done.new) (λ s. L.same links.old links.new) }
     ensures lines { (p : ℕ) → L.flow links.new p ≡ L.flow links.old p }
-    ensures in_turn { OnEvent result (λ s. BeginsInTurn others last core.old requests.old.items s.done.event) }
+    ensures in_turn { OnEvent (outcome result done.new) (λ s. BeginsInTurn others last core.old requests.old.items s.done.event) }
     ensures between { BetweenSteps core.new }
-    ensures idle { OnIdle result (CanBegin0 others core.old requests.old.items (L.view links.old) → ⊥) }
+    ensures idle { OnIdle (outcome result done.new) (CanBegin0 others core.old requests.old.items (L.view links.old) → ⊥) }
     ensures can { OnErr result (CanBegin0 others core.old requests.old.items (L.view links.old)) }
     ensures why { IfErr result (CannotStart0 clock core.old) }
-    ensures same { OnNone result ((core.new ≡ core.old) × (links.new ≡ links.old)) }
-    ensures same_requests { OnNone result (requests.new ≡ requests.old) }
+    ensures same { OnNone (outcome result done.new) ((core.new ≡ core.old) × (links.new ≡ links.old)) }
+    ensures same_requests { OnNone (outcome result done.new) (requests.new ≡ requests.old) }
 {
     if !core.coordinator.idle() {
-        return Ok(None);
+        return Ok(());
     }
     if !all_ready(links, others) {
-        return Ok(None);
+        return Ok(());
     }
     match next_in_turn(core, others, last, requests) {
-        None => Ok(None),
+        None => Ok(()),
         Some(from) => {
             if from == 0 {
-                Ok(Some(start(core, links, alloc, others, clock, requests)?))
+                start(core, links, alloc, others, clock, requests, done)?;
             } else {
-                Ok(Some(start_for(core, links, alloc, others, clock, from)?))
+                start_for(core, links, alloc, others, clock, from, done)?;
             }
+            Ok(())
         }
     }
 }

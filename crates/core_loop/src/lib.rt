@@ -14,6 +14,7 @@ mod looking;
 mod noting;
 mod other_core;
 mod part;
+mod putting;
 mod queue;
 mod receiving;
 mod refusal;

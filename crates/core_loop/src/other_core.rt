@@ -9,7 +9,7 @@ ghost use Rattle.world_histories.specs.Histories.{with_stamp};
 ghost use Rattle.core_loop.specs.Carrying.{Hands, IsFirst};
 ghost use Rattle.monitor_messages.specs.declared.message.Message.TheVariants as message;
 ghost use Rattle.core_loop.specs.Sending.{CanBeHanded, CanGoUp, IsPiece, IsShortAnswer, CannotReply};
-ghost use Rattle.core_loop.specs.Outcomes.{OnEvent, OnNone, OnIdle};
+ghost use Rattle.core_loop.specs.Outcomes.{OnEvent, OnNone, OnIdle, outcome};
 ghost use Rattle.core_loop.specs.Turning.{IsUnshortened};
 ghost use Rattle.core_loop.specs.Cores.{begins};
 ghost use Rattle.core_loop.specs.Receipts.{receives};
@@ -17,6 +17,7 @@ ghost use Rattle.core_loop.specs.Beginning.{CanBeginOther};
 ghost use Rattle.core_loop.specs.Choosing.{IsSubmission};
 ghost use Rattle.core_loop.specs.Events.{ActsOther, CannotTakeOther, CannotSubmit};
 
+use crate::putting::put;
 use crate::queue::next_request;
 use crate::refusal::{Refusal, next_stamp};
 use crate::sending::{hand, hand_short};
@@ -39,16 +40,20 @@ pub(crate) fn take<L: Links>(
     clock: u64,
     sent: u64,
     message: &Message,
-) -> Result<Stamped, Refusal>
+    done: &mut Option<Stamped>,
+) -> Result<(), Refusal>
+    requires undone { done.old ≡ None }
     requires between { IsBetweenSteps core.old }
     requires first { IsFirst (L.view links.old 0) (record { stamp = sent; message = message.now }) }
-    ensures acts { IfOk result (λ s. (entry : ℕ) → number ≡ suc entry → ActsOther entry clock (L.view links.old) (L.view links.new) core.old core.new s) }
-    ensures event { IfOk result (λ s. s.done.event ≡ Take number 0 false) }
-    ensures links { OnOk result (L.same links.old links.new) }
+    ensures acts { OnEvent (outcome result done.new) (λ s. (entry : ℕ) → number ≡ suc entry → ActsOther entry clock (L.view links.old) (L.view links.new) core.old core.new s) }
+    ensures event { OnEvent (outcome result done.new) (λ s. s.done.event ≡ Take number 0 false) }
+    ensures links { OnEvent (outcome result done.new) (λ _. L.same links.old links.new) }
+    ensures some { OnIdle (outcome result done.new) ⊥ }
+    ensures undone { OnErr result (done.new ≡ None) }
     ensures lines { (p : ℕ) → L.flow links.new p ≡ L.flow links.old p }
     ensures between { IsBetweenSteps core.new }
     ensures why { IfErr result (CannotTakeOther clock core.old (record { stamp = sent; message = message.now }) (L.view links.old)) }
-    ensures same { OnErr result ((core.new ≡ core.old) × (links.new ≡ links.old)) }
+    ensures same { OnNone (outcome result done.new) ((core.new ≡ core.old) × (links.new ≡ links.old)) }
 {
     let Ok(reply) = core.consider(alloc, message, false) else {
         return Err(Refusal::Stranger);
@@ -67,10 +72,14 @@ pub(crate) fn take<L: Links>(
                 from: 0,
                 short: false,
             };
-            Ok(Stamped {
-                stamp,
-                done: Done { event, answer },
-            })
+            put(
+                done,
+                Stamped {
+                    stamp,
+                    done: Done { event, answer },
+                },
+            );
+            Ok(())
         }
     }
 }
@@ -221,6 +230,7 @@ fn submission(alloc: Global, stamp: u64, op: &Op) -> Result<Vec<u8>, AllocError>
 }
 
 /// Submits the next request, where nothing is outstanding and the link to core 0 takes a message.
+#[inline(never)]
 pub(crate) fn begin<L: Links>(
     core: &mut OtherCore,
     links: &mut L,
@@ -228,31 +238,34 @@ pub(crate) fn begin<L: Links>(
     number: u16,
     clock: u64,
     requests: &mut VecDeque<Op>,
-) -> Result<Option<Stamped>, Refusal>
+    done: &mut Option<Stamped>,
+) -> Result<(), Refusal>
+    requires undone { done.old ≡ None }
     requires between { IsBetweenSteps core.old }
     requires short { All HasShortProgram requests.old.items }
-    ensures acts { OnEvent result (λ s. (entry : ℕ) → number ≡ suc entry → ActsOther entry clock (L.view links.old) (L.view links.new) core.old core.new s) }
-    ensures requests { OnEvent result (λ s. requests.old.items ≡ begins s.done.event ++ requests.new.items) }
-    ensures jobs { OnEvent result (λ s. receives s.done.event ≡ []) }
-    ensures whole { OnEvent result (λ s. IsUnshortened s.done.event) }
-    ensures links { OnEvent result (λ s. L.same links.old links.new) }
+    ensures acts { OnEvent (outcome result done.new) (λ s. (entry : ℕ) → number ≡ suc entry → ActsOther entry clock (L.view links.old) (L.view links.new) core.old core.new s) }
+    ensures requests { OnEvent (outcome result done.new) (λ s. requests.old.items ≡ begins s.done.event ++ requests.new.items) }
+    ensures jobs { OnEvent (outcome result done.new) (λ s. receives s.done.event ≡ []) }
+    ensures whole { OnEvent (outcome result done.new) (λ s. IsUnshortened s.done.event) }
+    ensures links { OnEvent (outcome result done.new) (λ s. L.same links.old links.new) }
     ensures lines { (p : ℕ) → L.flow links.new p ≡ L.flow links.old p }
-    ensures least { OnEvent result (λ s. IsSubmission s.done.event) }
+    ensures least { OnEvent (outcome result done.new) (λ s. IsSubmission s.done.event) }
     ensures between { IsBetweenSteps core.new }
-    ensures idle { OnIdle result (CanBeginOther core.old requests.old.items (L.view links.old) → ⊥) }
+    ensures idle { OnIdle (outcome result done.new) (CanBeginOther core.old requests.old.items (L.view links.old) → ⊥) }
     ensures can { OnErr result (CanBeginOther core.old requests.old.items (L.view links.old)) }
     ensures why { IfErr result (CannotSubmit clock) }
-    ensures same { OnNone result ((core.new ≡ core.old) × (links.new ≡ links.old)) }
-    ensures same_requests { OnNone result (requests.new ≡ requests.old) }
+    ensures same { OnNone (outcome result done.new) ((core.new ≡ core.old) × (links.new ≡ links.old)) }
+    ensures same_requests { OnNone (outcome result done.new) (requests.new ≡ requests.old) }
 {
     if requests.is_empty() {
-        return Ok(None);
+        return Ok(());
     }
     if core.participant.outstanding() {
-        return Ok(None);
+        return Ok(());
     }
     if !links.ready(0) {
-        return Ok(None);
+        return Ok(());
     }
-    Ok(Some(submit(core, links, alloc, number, clock, requests)?))
+    put(done, submit(core, links, alloc, number, clock, requests)?);
+    Ok(())
 }

@@ -75,14 +75,38 @@ impl Model for BoxedPart {
 }
 
 impl BoxedPart {
-    ghost use Rattle.std.specs.Prelude.{◌≡◌, IfOk};
+    ghost use Rattle.std.specs.Prelude.{◌≡◌, ◌<◌, ◌≤◌, [], ℕ, IfOk};
+    ghost use Rattle.core_links.specs.Views.{LinkView};
+    ghost use Rattle.monitor_2pc.specs.declared.most.TheConstants.{MOST_CORES};
+    ghost use Rattle.core_loop.specs.Keeping.{IsStanding};
+    ghost use Rattle.core_loop.specs.Standing.{IsSilent};
     ghost use Rattle.core_loop.specs.Keeping.{replica_of};
     ghost use Rattle.core_loop.specs.Answering.{count_if, under_way};
     ghost use Rattle.core_loop.specs.Owning.{asks_itself};
 
+    /// The part of a core of this number, which has done nothing yet.
+    // Not in line: what it needs of the stack is free again before the core is put together.
+    #[inline(never)]
+    pub(crate) fn new(
+        alloc: Global,
+        limits: Limits,
+        budget: u32,
+        number: u16,
+        cores: u16,
+    ) -> Result<BoxedPart, AllocError>
+        requires number { number < cores }
+        requires cores { cores ≤ MOST_CORES }
+        ensures stands { IfOk result (λ boxed. (view : ℕ → LinkView) → ((peer : ℕ) → IsSilent (view peer)) → IsStanding boxed number cores 0 [] view) }
+        ensures limits { IfOk result (λ boxed. (replica_of boxed).shown.limits ≡ limits) }
+        ensures budget { IfOk result (λ boxed. (replica_of boxed).budget ≡ budget) }
+    {
+        let part = Part::new(alloc, limits, budget, number, cores)?;
+        BoxedPart::of(alloc, part)
+    }
+
     /// This part.
     #[inline(never)]
-    pub(crate) fn of(alloc: Global, part: Part) -> Result<BoxedPart, AllocError>
+    fn of(alloc: Global, part: Part) -> Result<BoxedPart, AllocError>
         ensures { IfOk result (λ boxed. boxed ≡ part) }
     {
         let inner = Box::new(alloc, part)?;

@@ -123,15 +123,14 @@ impl<L: Links> Core<L> {
         ensures running { IfOk result (λ core. core.stopped ≡ None) }
         ensures requests { IfOk result (λ core. core.pending ≡ requests.items) }
     {
-        let part = Part::new(alloc, limits, budget, number, cores)?;
-        let boxed = BoxedPart::of(alloc, part)?;
+        let part = BoxedPart::new(alloc, limits, budget, number, cores)?;
         let given = requests.len() as u64;
         Ok(Core {
             alloc,
             number,
             cores,
             links,
-            part: boxed,
+            part,
             clock: 0,
             requests,
             given,

@@ -4,6 +4,7 @@ ghost use Rattle.std.specs.Prelude.{◌≡◌, ◌≤◌, ◌⊎◌, None, IsSom
 ghost use mathlib.Core.List.{IsPrefix};
 ghost use Rattle.rx_queue.specs.Queue.{jobs_seen, jobs_taken, SameIntake};
 ghost use Rattle.core_loop.specs.Attempts.{LooksAndAttempts};
+ghost use Rattle.core_loop.specs.Outcomes.{outcome};
 ghost use Rattle.core_loop.specs.Cores.{AreShort};
 ghost use Rattle.core_loop.specs.Beginning.{IsFitting};
 ghost use Rattle.core_loop.specs.Turning.{MayReceive, HasRequest};
@@ -18,11 +19,14 @@ use core_links::Links;
 use filter_table::Op;
 use rx_queue::Intake;
 use std::collections::VecDeque;
+use std::mem;
 use table_replica::Workspace;
 use world_histories::Stamped;
 
 /// Does the next event of a core, if there is one. It takes no memory where there is no message, no request and no job that it
 /// can receive.
+// Not in line, so that what a turn does afterwards takes no room on the stack while it works.
+#[inline(never)]
 fn next_event<L: Links>(
     part: &mut Part,
     links: &mut L,
@@ -31,14 +35,16 @@ fn next_event<L: Links>(
     workspace: &mut Workspace,
     context: Context,
     rx: bool,
-) -> Result<Option<Stamped>, Halt>
+    done: &mut Option<Stamped>,
+) -> Result<(), Halt>
+    requires undone { done.old ≡ None }
     requires cores { 1 ≤ context.cores }
     requires fits { IsFitting context.number context.cores part.old }
     requires short { AreShort context.number requests.old.items }
     ensures { LooksAndAttempts L.view L.flow L.same context rx
         (record { part = part.old; links = links.old; requests = requests.old.items; intake = intake.old })
         (record { part = part.new; links = links.new; requests = requests.new.items; intake = intake.new })
-        result }
+        (outcome result done.new) }
 {
     links.pump();
     let shown = match least_showing(links, context.cores) {
@@ -46,14 +52,14 @@ fn next_event<L: Links>(
         Ok(shown) => shown,
     };
     if !has_work(part, requests, intake, shown, context.cores, rx) {
-        return Ok(None);
+        return Ok(());
     }
-    first_event(part, links, requests, intake, workspace, shown, context, rx)
+    first_event(
+        part, links, requests, intake, workspace, shown, context, rx, done,
+    )
 }
 
 /// The same of a part that is on the heap.
-// Not in line, so that what a turn does afterwards takes no room on the stack while it works.
-#[inline(never)]
 pub(crate) fn next_event_of<L: Links>(
     part: &mut BoxedPart,
     links: &mut L,
@@ -71,7 +77,8 @@ pub(crate) fn next_event_of<L: Links>(
         (record { part = part.new; links = links.new; requests = requests.new.items; intake = intake.new })
         result }
 {
-    next_event(
+    let mut done = None;
+    match next_event(
         &mut part.inner,
         links,
         requests,
@@ -79,7 +86,15 @@ pub(crate) fn next_event_of<L: Links>(
         workspace,
         context,
         rx,
-    )
+        &mut done,
+    ) {
+        Ok(()) => Ok(done),
+        Err(halt) => {
+            // Nothing was done.
+            mem::forget(done);
+            Err(halt)
+        }
+    }
 }
 
 // Whether there is a message, a request, or a job that can be received.

@@ -27,13 +27,13 @@ returns-clause-acts g c =
     let is : out ≡ start_sends c.stage-fault.new.self front c.stage-fault.result = c.begin-told.ensures.sends front tried in
     let handed : HandsOut c.args.others c.in-Some.stamp out (view c.args.links.now) (view c.send.new.links) =
     subst (λ (o : Outgoing). HandsOut c.args.others c.in-Some.stamp o (view c.args.links.now) (view c.send.new.links)) (sym is) (c.send.ensures.sent c.in-Some.stamp (start_sends c.stage-fault.new.self front c.stage-fault.result) c.in-Ok.ensures.made) in
-    record {
+    rw c.put.ensures (record {
       m = None;
       out = out;
       leads = leads_start c.args.others c.args.clock c.in-Some.stamp core x c.begin-told.new.self popped told c.in-Some.ensures.some (idle_staged core c.requires.idle c.requires.between) t;
       carries = start_carries c.args.others _ out (view c.args.links.now) (view c.send.new.links) refl handed;
       same_budget = t.moves.same_budget;
-    }
+    })
 
 pub returns-clause-between : goal.returns-clause-between
 returns-clause-between g c = (c.begin-told.ensures.starts c.in-Some-front.op.now c.stage-fault.ensures.tried).moves.between

@@ -31,13 +31,13 @@ returns-clause-acts g c =
     let is : out ≡ sends = c.begin_for-told.ensures.sends tried.0 tried.1 w in
     let handed : HandsOut c.args.others c.in-Some.stamp out (view c.args.links.now) (view c.send.new.links) =
     subst (λ (o : Outgoing). HandsOut c.args.others c.in-Some.stamp o (view c.args.links.now) (view c.send.new.links)) (sym is) (c.send.ensures.sent c.in-Some.stamp sends (c.in-Ok.ensures.made tried.0 tried.1 w)) in
-    record {
+    rw c.put.ensures (record {
       m = None;
       out = out;
       leads = leads_start_for c.args.others c.args.clock c.in-Some.stamp c.args.from tried.0 core x c.begin_for-told.new.self told c.in-Some.ensures.some tried.2.is_core (idle_staged core c.requires.idle c.requires.between) t;
       carries = start_carries c.args.others _ out (view c.args.links.now) (view c.send.new.links) refl handed;
       same_budget = t.moves.same_budget;
-    }
+    })
 
 pub returns-clause-between : goal.returns-clause-between
 returns-clause-between g c =

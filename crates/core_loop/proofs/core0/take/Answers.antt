@@ -20,10 +20,10 @@ returns-clause-acts g c =
     let handed : HandsOut c.args.others c.in-Ok.sending.stamp out (view c.give_up.new.self) (view c.send.new.links) =
     subst (λ (o : Outgoing). HandsOut c.args.others c.in-Ok.sending.stamp o (view c.give_up.new.self) (view c.send.new.links)) (sym is) (c.send.ensures.sent c.in-Ok.sending.stamp s.0 s.1) in
     let given = c.give_up.ensures.given in
-    record {
+    rw c.put.ensures (record {
       m = Some m;
       out = out;
       leads = leads_take c.args.others c.args.clock c.in-Ok.sending.stamp c.args.peer c.args.core.now c.take.new.self m told c.in-Ok.ensures.stamp t;
       carries = take_carries c.args.others c.in-Ok.sending.stamp c.args.peer t.entry told.answer m out (view c.args.links.now) (view c.give_up.new.self) (view c.send.new.links) t.is_core (omega (arith, t.is_core, c.requires.other)) (takes_first _ _ m c.requires.first given.1) given.2 handed;
       same_budget = t.moves.same_budget;
-    }
+    })

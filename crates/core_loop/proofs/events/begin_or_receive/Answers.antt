@@ -1,154 +1,94 @@
-use Rattle.std.proofs.Common.{◌≡◌, ◌∙◌, inl, inr, true, false, refl, ap, subst, sym, arith, rules}
+use Rattle.std.proofs.Common.{◌≡◌, ◌∙◌, ◌++◌, inr, ℕ, true, false, List, Option, Some, None, Ok, refl, ap, subst, sym, arith, rules}
 use Rattle.std.proofs.lemmas.Grind.{common_steps}
 use Rattle.rx_queue.specs.declared.job.Job.{Job}
 use Rattle.table_replica.specs.Shown.{ReplicaState}
 use Rattle.core_loop.specs.declared.refusal.Refusal.{Refusal}
-use Rattle.core_loop.specs.Beginning.{CannotBegin}
 use Rattle.core_loop.specs.Keeping.{replica_of}
-use Rattle.core_loop.specs.Receipts.{IsReceivable, Receives, CannotReceive}
+use Rattle.world_histories.specs.declared.history.Stamped.{Stamped}
+use Rattle.core_loop.specs.Receipts.{IsReceivable, Receives, receives, CannotReceive}
+use mathlib.Core.List.{IsPrefix}
+use Rattle.filter_table.specs.declared.operation.Op.{Op}
+use Rattle.rx_queue.specs.declared.intake.Intake.{Intake}
+use Rattle.rx_queue.specs.Queue.{jobs_seen, jobs_taken, SameIntake}
+use Rattle.core_links.specs.Views.{LinkView}
+use Rattle.core_links.specs.Flows.{Flow}
+use Rattle.core_loop.specs.declared.context.Context.{Context}
+use Rattle.core_loop.specs.declared.part.Part.{Part}
+use Rattle.core_loop.specs.Attempts.{Attempts}
+use Rattle.core_loop.specs.Beginning.{CanBeginNext, IsFitting}
+use Rattle.core_loop.specs.Choosing.{NoMessageNow}
+use Rattle.core_loop.specs.Outcomes.{OnEvent, OnNone, OnIdle}
 use Rattle.core_loop.proofs.Acting.{receives_act}
-use Rattle.core_loop.proofs.Consuming.{begun_consumes, left_all, untouched}
-use Rattle.core_loop.proofs.Order.{request_next}
+use Rattle.core_loop.proofs.Consuming.{left_all}
 use Rattle.core_loop.proofs.events.begin_or_receive.Goals as goal
 
-pub returns-in-Ok-Some : goal.returns-in-Ok-Some
-returns-in-Ok-Some g c =
-    let is = c.in-Ok-Some.field-0-is in
-    let e = c.in-Ok-Some.ensures in
-    record {
-      acts = rw is at e.acts;
-      next = request_next c.args.context.cores c.args.context.begun_last c.args.part.now c.args.requests.now.items (g.L.Links.view c.args.links.now) c.in-Ok-Some.stamped.done.event c.requires.no_message (rw is at e.in_turn);
-      consumes = begun_consumes c.args.requests.now.items c.begin.new.requests.items c.args.intake.now c.args.rx c.in-Ok-Some.stamped (rw is at e.requests) (rw is at e.jobs) (rw is at e.whole);
-      links = rw is at e.links;
-      lines = e.lines;
-      queue = search rules;
-      same = tt;
-      none = tt;
-      idle = tt;
-      why = tt;
-    }
+-- where nothing could begin, a receipt is the first event that can be done, or there is none
+received : {L : Type 0} (view : L → ℕ → LinkView) (flow : L → ℕ → Flow) (alike : L → L → Type 0) (context : Context) (part : Part) (links : L) (requests : List Op) (old new : Intake) (done : Option Stamped)
+    → alike links links → IsFitting context.number context.cores part → NoMessageNow context.cores part (view links) → (CanBeginNext context.cores part requests (view links) → ⊥) → SameIntake old new
+    → OnEvent {E = Refusal} (Ok done) (Receives context.number context.clock (replica_of part))
+    → OnEvent {E = Refusal} (Ok done) (λ s. jobs_taken new ≡ jobs_taken old ++ receives s.done.event)
+    → OnEvent {E = Refusal} (Ok done) (λ s. IsPrefix (jobs_seen old) (receives s.done.event ++ jobs_seen new))
+    → OnNone {E = Refusal} (Ok done) (jobs_taken new ≡ jobs_taken old) → OnNone {E = Refusal} (Ok done) (IsPrefix (jobs_seen old) (jobs_seen new))
+    → OnIdle {E = Refusal} (Ok done) ((job : Job) → IsReceivable (replica_of part).shown.version new job → ⊥)
+    → Attempts view flow alike context true (record { part = part; links = links; requests = requests; intake = old }) (record { part = part; links = links; requests = requests; intake = new }) (Ok done)
+received view flow alike context part links requests old new (Some s) itself fits no_message no_request queue got taken front kept seen idle = record {
+  acts = receives_act context.number context.cores context.clock part s (view links) fits got;
+  next = rw got.is_event (no_message, no_request);
+  consumes = record {
+    requests = rw got.is_event refl;
+    jobs = taken;
+    front = front;
+    whole = rw got.is_event tt;
+    leave = λ no. absurd (let yes : true ≡ false = no in cc);
+  };
+  links = itself;
+  lines = λ p. refl;
+  queue = queue;
+  same = tt;
+  none = tt;
+  idle = tt;
+  why = tt;
+}
+received view flow alike context part links requests old new None itself fits no_message no_request queue got taken front kept seen idle = record {
+  acts = tt;
+  next = tt;
+  consumes = tt;
+  links = tt;
+  lines = λ p. refl;
+  queue = queue;
+  same = (refl, refl);
+  none = record { requests = refl; jobs = kept; seen = seen };
+  idle = record { message = no_message; request = no_request; job = λ may. idle may.1 may.2 };
+  why = tt;
+}
 
-pub returns-in-Err-Spent : goal.returns-in-Err-Spent
-returns-in-Err-Spent g c =
-    let e = c.in-Err-Spent.ensures in
-    record {
-      acts = tt;
-      next = tt;
-      consumes = tt;
-      links = tt;
-      lines = e.lines;
-      queue = search rules;
-      same = e.same;
-      none = untouched c.args.requests.now c.begin.new.requests c.args.intake.now e.same_requests;
-      idle = tt;
-      why = inr (inl (c.requires.no_message, subst (λ (r : Refusal). CannotBegin c.args.context.cores c.args.context.clock c.args.part.now c.args.requests.now.items (g.L.Links.view c.args.links.now) r) c.in-Err-Spent.field-0-is e.why));
-    }
-
-pub returns-in-Err : goal.returns-in-Err
-returns-in-Err g c =
-    let e = c.in-Err.ensures in
-    record {
-      acts = tt;
-      next = tt;
-      consumes = tt;
-      links = tt;
-      lines = e.lines;
-      queue = search rules;
-      same = e.same;
-      none = untouched c.args.requests.now c.begin.new.requests c.args.intake.now e.same_requests;
-      idle = tt;
-      why = first_of (search rules, grind (arith, common_steps));
-    }
-
-pub returns-then-not-rx : goal.returns-then-not-rx
-returns-then-not-rx g c =
-    let is = c.in-Ok-None.field-0-is in
-    let e = c.in-Ok-None.ensures in
-    record {
-      acts = tt;
-      next = tt;
-      consumes = tt;
-      links = tt;
-      lines = e.lines;
-      queue = search rules;
-      same = rw is at e.same;
-      none = untouched c.args.requests.now c.begin.new.requests c.args.intake.now (rw is at e.same_requests);
-      idle = record {
-        message = c.requires.no_message;
-        request = rw is at e.idle;
-        job = λ may. absurd (let no : c.args.rx ≡ false = c.if-not-rx.true in let yes : c.args.rx ≡ true = may.0 in cc);
-      };
-      why = tt;
-    }
-
-pub returns-in-Ok-None-receive : goal.returns-in-Ok-None-receive
-returns-in-Ok-None-receive g c =
-    let is = c.in-Ok-None.field-0-is in
-    let e = c.in-Ok-None.ensures in
-    let same = rw is at e.same in
-    let seen_is = c.in-Ok-None-receive.field-0-is in
-    let seen = c.in-Ok-None-receive.ensures in
-    let none = rw seen_is at seen.idle in
-    let rep : c.replica.result.now ≡ replica_of c.args.part.now = c.replica.ensures ∙ ap replica_of same.0 in
-    record {
-      acts = tt;
-      next = tt;
-      consumes = tt;
-      links = tt;
-      lines = e.lines;
-      queue = seen.queue;
-      same = same;
-      none = left_all c.args.requests.now c.begin.new.requests c.args.intake.now c.receive.new.intake (rw is at e.same_requests) (rw seen_is at seen.kept) (rw seen_is at seen.seen);
-      idle = record {
-        message = c.requires.no_message;
-        request = rw is at e.idle;
-        job = λ may. none may.1 (subst (λ (r : ReplicaState). IsReceivable r.shown.version c.receive.new.intake may.1) (sym rep) may.2);
-      };
-      why = tt;
-    }
-
-pub returns-in-Ok-Some-receive : goal.returns-in-Ok-Some-receive
-returns-in-Ok-Some-receive g c =
-    let view = g.L.Links.view in
-    let is = c.in-Ok-None.field-0-is in
-    let e = c.in-Ok-None.ensures in
+pub returns-in-Ok-receive_front : goal.returns-in-Ok-receive_front
+returns-in-Ok-receive_front g c =
+    let is = c.in-None.is in
+    let e = c.in-Ok.ensures in
     let same = rw is at e.same in
     let idle = rw is at e.idle in
     let requests = rw is at e.same_requests in
-    let got_is = c.in-Ok-Some-receive.field-0-is in
-    let h = c.in-Ok-Some-receive.ensures in
-    let got = rw got_is at h.receives in
+    let h = c.in-Ok-receive_front.ensures in
+    let done = c.receive_front.new.done in
+    let new = c.receive_front.new.intake in
     let rep : c.replica.result.now ≡ replica_of c.args.part.now = c.replica.ensures ∙ ap replica_of same.0 in
-    let r : Receives c.args.context.number c.args.context.clock (replica_of c.args.part.now) c.in-Ok-Some-receive.stamped = subst (λ (x : ReplicaState). Receives c.args.context.number c.args.context.clock x c.in-Ok-Some-receive.stamped) rep got in
-    record {
-      acts = rw (same.1, same.0) (receives_act c.args.context.number c.args.context.cores c.args.context.clock c.args.part.now c.in-Ok-Some-receive.stamped (view c.args.links.now) c.requires.fits r);
-      next = rw got.is_event (c.requires.no_message, idle);
-      consumes = record {
-        requests = rw (requests, got.is_event) refl;
-        jobs = rw got_is at h.taken;
-        front = rw got_is at h.front;
-        whole = rw got.is_event tt;
-        leave = λ no. absurd (let yes : c.args.rx ≡ true = c.if-not-rx.false in cc);
-      };
-      links = rw same.1 (g.met.L.Links.same_itself _);
-      lines = e.lines;
-      queue = h.queue;
-      same = tt;
-      none = tt;
-      idle = tt;
-      why = tt;
-    }
+    rw (same.1, same.0, requests, c.if-not-rx.false)
+    (received g.L.Links.view g.L.Links.flow g.L.Links.same c.args.context c.args.part.now c.args.links.now c.args.requests.now.items c.args.intake.now new done (g.met.L.Links.same_itself _) c.requires.fits c.requires.no_message idle h.queue
+    (subst (λ (x : ReplicaState). OnEvent {E = Refusal} (Ok done) (Receives c.args.context.number c.args.context.clock x)) rep h.receives) h.taken h.front h.kept h.seen
+    (subst (λ (x : ReplicaState). OnIdle {E = Refusal} (Ok done) ((job : Job) → IsReceivable x.shown.version new job → ⊥)) rep h.idle))
 
-pub returns-in-Err-Spent-receive : goal.returns-in-Err-Spent-receive
-returns-in-Err-Spent-receive g c =
-    let is = c.in-Ok-None.field-0-is in
-    let e = c.in-Ok-None.ensures in
+pub returns-in-Err-Spent-receive_front : goal.returns-in-Err-Spent-receive_front
+returns-in-Err-Spent-receive_front g c =
+    let is = c.in-None.is in
+    let e = c.in-Ok.ensures in
     let same = rw is at e.same in
     let idle = rw is at e.idle in
-    let h = c.in-Err-Spent-receive.ensures in
+    let requests = rw is at e.same_requests in
+    let h = c.in-Err-Spent-receive_front.ensures in
     let rep : c.replica.result.now ≡ replica_of c.args.part.now = c.replica.ensures ∙ ap replica_of same.0 in
-    let can = subst (λ (r : ReplicaState). (job : Job) × IsReceivable r.shown.version c.receive.new.intake job) rep h.can in
-    let spent = subst (λ (r : Refusal). CannotReceive c.args.context.clock r) c.in-Err-Spent-receive.field-0-is h.why in
+    let can = subst (λ (r : ReplicaState). (job : Job) × IsReceivable r.shown.version c.receive_front.new.intake job) rep h.can in
+    let spent = subst (λ (r : Refusal). CannotReceive c.args.context.clock r) c.in-Err-Spent-receive_front.field-0-is h.why in
     record {
       acts = tt;
       next = tt;
@@ -157,20 +97,21 @@ returns-in-Err-Spent-receive g c =
       lines = e.lines;
       queue = h.queue;
       same = same;
-      none = left_all c.args.requests.now c.begin.new.requests c.args.intake.now c.receive.new.intake (rw is at e.same_requests) h.kept h.seen;
+      none = left_all c.args.requests.now c.begin.new.requests c.args.intake.now c.receive_front.new.intake requests h.kept h.seen;
       idle = tt;
       why = inr (inr (c.requires.no_message, idle, (c.if-not-rx.false, can.0, can.1), spent));
     }
 
-pub returns-in-Err-receive : goal.returns-in-Err-receive
-returns-in-Err-receive g c =
-    let is = c.in-Ok-None.field-0-is in
-    let e = c.in-Ok-None.ensures in
+pub returns-in-Err-receive_front : goal.returns-in-Err-receive_front
+returns-in-Err-receive_front g c =
+    let is = c.in-None.is in
+    let e = c.in-Ok.ensures in
     let same = rw is at e.same in
     let idle = rw is at e.idle in
-    let h = c.in-Err-receive.ensures in
+    let requests = rw is at e.same_requests in
+    let h = c.in-Err-receive_front.ensures in
     let rep : c.replica.result.now ≡ replica_of c.args.part.now = c.replica.ensures ∙ ap replica_of same.0 in
-    let can = subst (λ (r : ReplicaState). (job : Job) × IsReceivable r.shown.version c.receive.new.intake job) rep h.can in
+    let can = subst (λ (r : ReplicaState). (job : Job) × IsReceivable r.shown.version c.receive_front.new.intake job) rep h.can in
     record {
       acts = tt;
       next = tt;
@@ -179,7 +120,7 @@ returns-in-Err-receive g c =
       lines = e.lines;
       queue = h.queue;
       same = same;
-      none = left_all c.args.requests.now c.begin.new.requests c.args.intake.now c.receive.new.intake (rw is at e.same_requests) h.kept h.seen;
+      none = left_all c.args.requests.now c.begin.new.requests c.args.intake.now c.receive_front.new.intake requests h.kept h.seen;
       idle = tt;
       why = inr (inr (c.requires.no_message, idle, (c.if-not-rx.false, can.0, can.1), first_of (search rules, grind (arith, common_steps))));
     }

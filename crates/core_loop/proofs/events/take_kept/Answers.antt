@@ -19,4 +19,4 @@ returns-in-Err-NotReady-clause-waits g c =
     let view = g.L.Links.view c.args.links.now in
     let m : Stamping = record { stamp = c.in-Ok.sent; message = c.in-Ok.message } in
     let first : IsFirst (view c.args.peer) m = search rules in
-    not_ready_waits c.args.context.cores c.args.context.clock c.args.peer c.args.part.now m view first (subst (λ (r : Refusal). CannotTake c.args.context.cores c.args.context.clock c.args.peer c.args.part.now m view r) c.in-Err-NotReady.field-0-is c.in-Err-NotReady.ensures.why)
+    rw c.in-Err-NotReady.ensures.undone (not_ready_waits c.args.context.cores c.args.context.clock c.args.peer c.args.part.now m view first (subst (λ (r : Refusal). CannotTake c.args.context.cores c.args.context.clock c.args.peer c.args.part.now m view r) c.in-Err-NotReady.field-0-is c.in-Err-NotReady.ensures.why))

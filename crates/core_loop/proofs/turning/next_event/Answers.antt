@@ -9,6 +9,7 @@ use Rattle.world_histories.proofs.Lists.{prefix_then}
 use Rattle.core_loop.proofs.Carrying.{quiet_along, same_quiet, pumped_quiet}
 use Rattle.core_loop.specs.Choosing.{ShowsNothing, IsLeastShowing}
 use Rattle.core_loop.specs.Consuming.{HasNothingNow}
+use Rattle.core_loop.specs.Outcomes.{outcome}
 use Rattle.core_loop.specs.Receipts.{receives}
 use Rattle.core_loop.specs.Turning.{HasWork, HaltsFor}
 use Rattle.core_loop.proofs.Acting.{on_event_map, on_none_map, on_idle_both, on_err_both, on_err_of, either_way, can_begin_has, work_stays}
@@ -58,7 +59,7 @@ returns-then-not-has_work g c =
     let looked = c.least_showing.ensures in
     let work = c.has_work.ensures in
     let none = c.if-not-has_work.true in
-    record {
+    rw c.requires.undone (record {
       acts = tt;
       consumes = tt;
       links = g.met.L.Links.same_along _ _ _ pumped.links looked.links;
@@ -78,7 +79,7 @@ returns-then-not-has_work g c =
       dry = dry_of c.args.context.cores view (g.L.Links.flow c.least_showing.new.links) c.in-Ok.shown c.in-Ok.ensures.least c.in-Ok.ensures.dry;
       why = tt;
       memory = tt;
-    }
+    })
 
 pub returns : goal.returns
 returns g c =
@@ -96,7 +97,7 @@ returns g c =
     let new = c.first_event.new.intake in
     let pumped = c.pump.ensures in
     let looked = c.least_showing.ensures in
-    let r = c.first_event.result in
+    let r = outcome c.first_event.result c.first_event.new.done in
     let e = c.first_event.ensures in
     let along = g.met.L.Links.same_along _ _ _ pumped.links looked.links in
     record {
