@@ -1,6 +1,6 @@
 //! How a machine comes up.
 
-ghost use Rattle.std.specs.Prelude.{◌≡◌, ◌<◌, ◌≤◌, ◌⊎◌, ◌↔◌, ℕ, All, List, length, Err, IfOk, OnOk};
+ghost use Rattle.std.specs.Prelude.{◌≡◌, ◌<◌, ◌≤◌, ◌⊎◌, ◌↔◌, ℕ, All, List, length, Err, IfOk, OnOk, vec_capacity};
 ghost use Rattle.filter_table.specs.Limits.{TableLimits, default_limits};
 ghost use Rattle.monitor_2pc.specs.declared.most.TheConstants.{MOST_CORES};
 ghost use Rattle.core_loop.specs.Cores.{AreShort};
@@ -40,16 +40,18 @@ fn start_core(
     requires cores { cores ≤ MOST_CORES }
     requires short { AreShort number requests.items }
     requires silent { AreSilent links }
-    ensures { IfOk result (λ core. ComesUpLast number cores limits budget links requests.items core ports.old.items ports.new.items) }
+    requires room { length ports.old.items < vec_capacity ports.old }
+    ensures up { IfOk result (λ core. ComesUpLast number cores limits budget links requests.items core ports.old.items ports.new.items) }
+    ensures room { vec_capacity ports.new ≡ vec_capacity ports.old }
 {
     let (port, intake) = queue(alloc, QUEUE_JOBS)?;
-    ports.push(port)?;
+    ports.push_reserved(port);
     Core::new(
         alloc, links, limits, budget, number, cores, requests, intake,
     )
 }
 
-/// One more core comes up.
+/// One more core comes up. There is room for it, so that no core is dropped here: that takes much of the stack.
 #[inline(never)]
 fn add_core(
     alloc: Global,
@@ -65,11 +67,15 @@ fn add_core(
     requires count { count ≤ MOST_CORES }
     requires short { AreShort (length cores.old.items) requests.items }
     requires silent { AreSilent links }
-    ensures { OnOk result (AddsCore count limits budget links requests.items cores.old.items cores.new.items ports.old.items ports.new.items) }
+    requires room { length cores.old.items < vec_capacity cores.old }
+    requires port_room { length ports.old.items < vec_capacity ports.old }
+    ensures adds { OnOk result (AddsCore count limits budget links requests.items cores.old.items cores.new.items ports.old.items ports.new.items) }
+    ensures room { vec_capacity cores.new ≡ vec_capacity cores.old }
+    ensures port_room { vec_capacity ports.new ≡ vec_capacity ports.old }
 {
     let number = cores.len() as u16;
     let core = start_core(alloc, links, limits, budget, number, count, requests, ports)?;
-    cores.push(core)?;
+    cores.push_reserved(core);
     Ok(())
 }
 

@@ -7,6 +7,8 @@ use std::alloc::{AllocError, Global};
 use std::collections::VecDeque;
 
 /// The items of each of so many cores, in order. The one error is that there is no memory.
+// Not in line: what it needs of the stack is free again before the cores are made.
+#[inline(never)]
 pub fn by_core<T: Drop>(
     alloc: Global,
     cores: usize,

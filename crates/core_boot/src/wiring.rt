@@ -41,6 +41,8 @@ fn join_peer(
 }
 
 /// The links of so many cores, in the order of their numbers: core 0 and each other core are joined by two rings.
+// Not in line: what it needs of the stack is free again before the cores are made.
+#[inline(never)]
 pub(crate) fn wire(alloc: Global, cores: u16) -> Result<Vec<RingLinks>, AllocError>
     requires { 0 < cores }
     ensures { IfOk result (λ links. IsWiring cores links.items) }

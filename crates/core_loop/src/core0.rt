@@ -1,6 +1,6 @@
 //! The events of core 0.
 
-ghost use Rattle.std.specs.Prelude.{◌≡◌, ◌≢◌, ◌≤◌, ◌<◌, ◌+◌, max, ◌∷◌, ◌++◌, [], ℕ, suc, true, false, Some, IfOk, IfErr, IfSome, IfNone, OnErr, OnOk, None, slice_get};
+ghost use Rattle.std.specs.Prelude.{◌≡◌, ◌≢◌, ◌≤◌, ◌<◌, ◌+◌, max, ◌∷◌, ◌++◌, [], ℕ, suc, true, false, Some, IfOk, IfErr, IfSome, IfNone, OnErr, None, slice_get};
 ghost use Rattle.filter_table.specs.declared.operation.Op.{Op as GhostOp};
 ghost use Rattle.monitor_2pc.specs.Coordinators.{Idle};
 ghost use Rattle.monitor_2pc.specs.Starting.{WasStaged};

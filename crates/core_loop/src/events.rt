@@ -1,6 +1,6 @@
 //! The next event of a core, whichever part it has.
 
-ghost use Rattle.std.specs.Prelude.{◌≡◌, ◌≢◌, ◌≤◌, ◌<◌, ◌++◌, [], ℕ, false, None, IfOk, IfErr, IfSome, IfNone, IsTrue, OnErr, OnOk};
+ghost use Rattle.std.specs.Prelude.{◌≡◌, ◌≢◌, ◌≤◌, ◌<◌, ◌++◌, [], ℕ, false, None, IfErr, IfSome, IfNone, IsTrue, OnErr};
 ghost use Rattle.world_events.specs.declared.event.Event.TheVariants.{Take};
 ghost use Rattle.core_loop.specs.Attempts.{Attempts};
 ghost use Rattle.core_loop.specs.Turning.{IsUnshortened};

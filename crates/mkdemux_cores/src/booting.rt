@@ -159,7 +159,8 @@ fn boxed(
 {
     let mut boxes = Vec::with_capacity(alloc, cores.len())?;
     for core in cores {
-        boxes.push(block_of(alloc, core)?)?;
+        let block = block_of(alloc, core)?;
+        boxes.push_reserved(block);
     }
     Ok(boxes)
 }

@@ -1,12 +1,14 @@
 //! What an operation does to the filters.
-ghost use Rattle.std.specs.Prelude.{◌≡◌, None, OnOk, OnErr};
-ghost use Rattle.endpoint_caps.specs.Capabilities.{cap_at, revoked, dropped};
+ghost use Rattle.std.specs.Prelude.{◌≡◌, ◌==◌, ◌||◌, ℕ, None, is_some, IfOk, OnOk, OnErr};
+ghost use Rattle.endpoint_caps.specs.Capabilities.{cap_at, revoked, dropped, is_under};
+ghost use Rattle.chunked.specs.Maps.{value_at};
 ghost use Rattle.filter_table.specs.Tables.{endpoint_of, program_of};
 ghost use Rattle.installed_filters.specs.Installed.{AreHeldBy};
 ghost use Rattle.table_replica.specs.Changing.{IsNext, MayChange, StandUnder};
 
 use crate::Op;
 use crate::boxed::BoxedFilters;
+use chunked::Sorted;
 use endpoint_caps::Caps;
 use filter_verify::Verified;
 use std::alloc::{AllocError, Global};
@@ -72,7 +74,7 @@ fn prepare_revoke(
     ensures planned { OnOk result (StandUnder (revoked caps.now.table cap).held filters.old.now filters.new.next) }
     ensures free { OnErr result (filters.new.next ≡ None) }
 {
-    let gone = caps.revoked_ids(alloc, cap)?;
+    let gone = revoked_with(alloc, caps, cap)?;
     filters.prepare_lapse(alloc, &gone)
 }
 
@@ -90,6 +92,23 @@ fn prepare_drop(
     ensures planned { OnOk result (StandUnder (dropped caps.now.table cap).held filters.old.now filters.new.next) }
     ensures free { OnErr result (filters.new.next ≡ None) }
 {
-    let gone = caps.dropped_ids(alloc, cap)?;
+    let gone = dropped_with(alloc, caps, cap)?;
     filters.prepare_lapse(alloc, &gone)
+}
+
+/// The ids of the capabilities that were minted from one.
+// Not in line: what it needs of the stack is free again before the filters are planned.
+#[inline(never)]
+fn revoked_with(alloc: Global, caps: &Caps, cap: u32) -> Result<Sorted<()>, AllocError>
+    ensures { IfOk result (λ ids. (id : ℕ) → is_some (value_at ids.entries id) ≡ is_under caps.now.table.held cap id) }
+{
+    caps.revoked_ids(alloc, cap)
+}
+
+/// The same of these and the one.
+#[inline(never)]
+fn dropped_with(alloc: Global, caps: &Caps, cap: u32) -> Result<Sorted<()>, AllocError>
+    ensures { IfOk result (λ ids. (id : ℕ) → is_some (value_at ids.entries id) ≡ ((id == cap) || is_under caps.now.table.held cap id)) }
+{
+    caps.dropped_ids(alloc, cap)
 }

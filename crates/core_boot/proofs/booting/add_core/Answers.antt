@@ -2,14 +2,14 @@ use Rattle.std.proofs.Common.{ℕ, ◌∙◌, subst}
 use Rattle.core_boot.specs.Booting.{ComesUp}
 use Rattle.core_boot.proofs.booting.add_core.Goals as goal
 
-pub returns : goal.returns
-returns c =
+pub returns-clause-adds : goal.returns-clause-adds
+returns-clause-adds c =
     let core = c.in_ok-core.core in
-    let last = c.in_ok-core.ensures in
+    let last = c.in_ok-core.ensures.up in
     record {
       core = core;
       port = last.port;
       comes_up = subst (λ (n : ℕ). ComesUp n c.args.count c.args.limits c.args.budget c.args.links c.args.requests.items core last.port) (c.len-number.ensures ∙ c.args.cores.now.ok.0) last.comes_up;
-      pushed = c.in_ok-push.ensures.items;
+      pushed = c.push_reserved.ensures.items;
       pushed_port = last.pushed;
     }

@@ -1,4 +1,4 @@
-use Rattle.std.proofs.Common.{◌≡◌, ◌∙◌, ◌++◌, inr, ℕ, true, false, List, Option, Some, None, Ok, refl, ap, subst, sym, arith, rules}
+use Rattle.std.proofs.Common.{◌≡◌, ◌∙◌, ◌++◌, inr, ℕ, true, false, List, Option, Some, None, Ok, refl, ap, subst, arith, rules}
 use Rattle.std.proofs.lemmas.Grind.{common_steps}
 use Rattle.rx_queue.specs.declared.job.Job.{Job}
 use Rattle.table_replica.specs.Shown.{ReplicaState}
