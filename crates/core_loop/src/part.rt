@@ -14,33 +14,8 @@ pub(crate) enum Part {
 }
 
 impl Part {
-    ghost use Rattle.std.specs.Prelude.{◌≡◌, ◌<◌, ◌≤◌, [], ℕ, IfOk};
-    ghost use Rattle.core_links.specs.Views.{LinkView};
-    ghost use Rattle.monitor_2pc.specs.declared.most.TheConstants.{MOST_CORES};
-    ghost use Rattle.core_loop.specs.Keeping.{IsStanding, replica_of};
-    ghost use Rattle.core_loop.specs.Standing.{IsSilent};
-
-    /// The part of a core of this number, which has done nothing yet.
-    #[inline(never)]
-    pub(crate) fn new(
-        alloc: Global,
-        limits: Limits,
-        budget: u32,
-        number: u16,
-        cores: u16,
-    ) -> Result<Part, AllocError>
-        requires number { number < cores }
-        requires cores { cores ≤ MOST_CORES }
-        ensures stands { IfOk result (λ part. (view : ℕ → LinkView) → ((peer : ℕ) → IsSilent (view peer)) → IsStanding part number cores 0 [] view) }
-        ensures limits { IfOk result (λ part. (replica_of part).shown.limits ≡ limits) }
-        ensures budget { IfOk result (λ part. (replica_of part).budget ≡ budget) }
-    {
-        if number == 0 {
-            Ok(Part::Core0(Core0::new(alloc, limits, budget, cores)?))
-        } else {
-            Ok(Part::OtherCore(OtherCore::new(alloc, limits, budget)?))
-        }
-    }
+    ghost use Rattle.std.specs.Prelude.{◌≡◌};
+    ghost use Rattle.core_loop.specs.Keeping.{replica_of};
 
     /// The core's replica.
     pub(crate) fn replica(&self) -> &Replica
@@ -100,8 +75,52 @@ impl BoxedPart {
         ensures limits { IfOk result (λ boxed. (replica_of boxed).shown.limits ≡ limits) }
         ensures budget { IfOk result (λ boxed. (replica_of boxed).budget ≡ budget) }
     {
-        let part = Part::new(alloc, limits, budget, number, cores)?;
-        BoxedPart::of(alloc, part)
+        if number == 0 {
+            BoxedPart::core_0(alloc, limits, budget, cores)
+        } else {
+            BoxedPart::other_core(alloc, limits, budget, number, cores)
+        }
+    }
+
+    /// Core 0's part.
+    // Not in line, so that the stack has one part at a time.
+    #[inline(never)]
+    fn core_0(
+        alloc: Global,
+        limits: Limits,
+        budget: u32,
+        cores: u16,
+    ) -> Result<BoxedPart, AllocError>
+        requires least { 1 ≤ cores }
+        requires most { cores ≤ MOST_CORES }
+        ensures stands { IfOk result (λ boxed. (view : ℕ → LinkView) → ((peer : ℕ) → IsSilent (view peer)) → IsStanding boxed 0 cores 0 [] view) }
+        ensures limits { IfOk result (λ boxed. (replica_of boxed).shown.limits ≡ limits) }
+        ensures budget { IfOk result (λ boxed. (replica_of boxed).budget ≡ budget) }
+    {
+        let core = Core0::new(alloc, limits, budget, cores)?;
+        let boxed = BoxedPart::of(alloc, Part::Core0(core))?;
+        Ok(boxed)
+    }
+
+    /// The part of the other core with this number.
+    #[inline(never)]
+    fn other_core(
+        alloc: Global,
+        limits: Limits,
+        budget: u32,
+        number: u16,
+        cores: u16,
+    ) -> Result<BoxedPart, AllocError>
+        requires other { 1 ≤ number }
+        requires number { number < cores }
+        requires cores { cores ≤ MOST_CORES }
+        ensures stands { IfOk result (λ boxed. (view : ℕ → LinkView) → ((peer : ℕ) → IsSilent (view peer)) → IsStanding boxed number cores 0 [] view) }
+        ensures limits { IfOk result (λ boxed. (replica_of boxed).shown.limits ≡ limits) }
+        ensures budget { IfOk result (λ boxed. (replica_of boxed).budget ≡ budget) }
+    {
+        let core = OtherCore::new(alloc, limits, budget)?;
+        let boxed = BoxedPart::of(alloc, Part::OtherCore(core))?;
+        Ok(boxed)
     }
 
     /// This part.
