@@ -14,10 +14,10 @@ import sys
 
 # Bytes that a call may take; all that aren't named take at most 2,048.
 MOST = {
-    "mkdemux_boot_cores": 10080,
-    "mkdemux_boot_limits_cores": 10080,
-    "mkdemux_turn": 6368,
-    "mkdemux_settle": 6368,
+    "mkdemux_boot_cores": 7744,
+    "mkdemux_boot_limits_cores": 7744,
+    "mkdemux_turn": 4800,
+    "mkdemux_settle": 4800,
     "mkdemux_close_core": 3328,
     "mkdemux_assemble": 6656,
 }
