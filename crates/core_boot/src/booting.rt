@@ -25,7 +25,8 @@ use world_core::BootFault;
 const QUEUE_JOBS: usize = 16;
 
 /// A core that has done nothing. The port of its queue is put with the others, so that a core isn't moved with one.
-#[inline(never)]
+// In line, so that the stack has one core at a time.
+#[inline(always)]
 fn start_core(
     alloc: Global,
     links: RingLinks,

@@ -1,4 +1,5 @@
-//! Where the event of a turn goes. It is handed down, so that no call on the way to it makes room on the stack for an event of its own.
+//! Where the event of a turn goes. The place is handed down, so that no call on the way to the event makes room on the
+//! stack for one of its own.
 
 ghost use Rattle.std.specs.Prelude.{◌≡◌, None, Some};
 
