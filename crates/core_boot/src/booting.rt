@@ -53,7 +53,7 @@ fn start_core(
 }
 
 /// One more core comes up. There is room for it, so that no core is dropped here: that takes much of the stack.
-#[inline(never)]
+#[inline(always)]
 fn add_core(
     alloc: Global,
     links: RingLinks,
