@@ -78,6 +78,8 @@ impl<L: Links> Core<L> {
     /// The endpoints that get a packet at the core's version now, at the front of the room, with the bytes that each keeps: their
     /// number. The packet, of which these bytes were captured and which had `original` bytes, stays where it is. The receipt is an
     /// event of the core's history. It takes memory only where a change of the table since made it necessary.
+    // In line, so that its result stays in registers.
+    #[inline(always)]
     pub fn receive(
         &mut self,
         bytes: &[u8],
@@ -148,7 +150,22 @@ fn write_front(room: &mut [Kept], kept: &[Kept])
 {
     match kept {
         [] => {}
-        [only] => room[0] = *only,
-        _ => room[..kept.len()].copy_from_slice(kept),
+        [only] => {
+            // Each field is read alone: a read of what was just written in parts would wait for all of them.
+            let Kept { endpoint, kept } = *only;
+            room[0] = Kept { endpoint, kept };
+        }
+        _ => write_several(room, kept),
     }
+}
+
+// The same for any list.
+#[inline(never)]
+fn write_several(room: &mut [Kept], kept: &[Kept])
+    requires { length kept.now ≤ length room.old }
+    ensures front { take (length kept.now) room.new ≡ kept.now }
+    ensures rest { drop (length kept.now) room.new ≡ drop (length kept.now) room.old }
+    ensures room { length room.new ≡ length room.old }
+{
+    room[..kept.len()].copy_from_slice(kept);
 }

@@ -1,5 +1,5 @@
 -- The hits of a packet.
-use Rattle.std.proofs.Common.{◌≡◌, ◌<◌, ◌≤◌, ◌+◌, ◌/◌, ◌%◌, inl, inr, ℕ, true, Some, is_some, List, [], length, ap, sym, ◌∙◌, subst, arith, get_or, set, slice_get, replicate}
+use Rattle.std.proofs.Common.{◌≡◌, ◌<◌, ◌≤◌, ◌+◌, ◌/◌, ◌%◌, inl, inr, ℕ, true, Some, is_some, List, [], ◌∷◌, length, min, refl, ap, sym, ◌∙◌, subst, arith, get_or, set, slice_get, replicate}
 use Rattle.std.proofs.lemmas.Bool.{cases_lt, cases_eq}
 use Rattle.std.proofs.lemmas.List.{get_or-set_same, get_or-set_other, get_or-replicate, get_or_past, length-replicate}
 use Rattle.std.proofs.lemmas.Option.{slice_get_within}
@@ -9,8 +9,9 @@ use Rattle.filter_group.proofs.Edits.{contains_at, at_contains}
 use Rattle.filter_group.proofs.Sides.{one_thing}
 use Rattle.filter_table.specs.declared.delivery.Kept.{Kept}
 use Rattle.installed_filters.specs.Counts.{numbers, reach_at, reach_key, AreIndexed, AreWithin, AreReachKeys, no_counts, ends_at}
-use Rattle.installed_filters.specs.Keeping.{AreKept, AreApart, AreNoted, GetsBy, GetsBefore, GetsOr, GetsNoted}
+use Rattle.installed_filters.specs.Keeping.{at_endpoint, AreKept, AreApart, AreNoted, GetsBy, GetsBefore, GetsOr, GetsNoted}
 use Rattle.installed_filters.proofs.Raised.{kept_alike, kept_none}
+use Rattle.installed_filters.proofs.Walks.{keep_one}
 use Rattle.installed_filters.proofs.Indexed.{key_endpoint, key_number}
 
 -- One hit after the other
@@ -37,6 +38,16 @@ pub before_all : (ends : List (SortedMap ℕ)) (hits : List Hit) (index captured
 before_all ends hits index captured kept all h = kept_alike (GetsBefore ends hits index) (GetsBy ends hits) captured kept
     (λ e v g. (g.1, contains_at hits g.0 g.1 g.3, g.4, g.5))
     (λ e v g. (let at = at_contains hits g.0 g.1 in let inside = slice_get_within hits at.0 g.0 at.1 in (at.0, g.0, omega arith, at.1, g.2, g.3))) h
+
+-- one hit whose program has one endpoint
+pub kept_of_one : (ends : List (SortedMap ℕ)) (hits : List Hit) (hit : Hit) (endpoint count captured : ℕ) → slice_get hits 0 ≡ Some hit → length hits < 2 → (ends_at ends hit.member).entries ≡ (endpoint, count) ∷ []
+    → AreKept (GetsBy ends hits) captured (at_endpoint endpoint (min hit.verdict captured) ∷ [])
+kept_of_one ends hits hit endpoint count captured at single one =
+    let most = min hit.verdict captured in
+    let now = at_endpoint endpoint most ∷ [] in
+    let entries = (ends_at ends hit.member).entries in
+    let kept = keep_one entries endpoint count [] now most one tt refl ends hits 0 captured hit.verdict refl (before_none ends hits captured) in
+    before_all ends hits 1 captured now (omega arith) (before_more ends hits 0 hit captured now at kept)
 
 -- Verdicts that are noted
 

@@ -1,5 +1,5 @@
 //! The endpoints of one program.
-ghost use Rattle.std.specs.Prelude.{◌≡◌, ◌==◌, ◌+◌, ◌-◌, ◌<◌, ◌⊎◌, if◌then◌else◌, ℕ, List, [], ◌∷◌, is_some, true, IfOk, OnOk, min};
+ghost use Rattle.std.specs.Prelude.{◌≡◌, ◌==◌, ◌+◌, ◌-◌, ◌<◌, ◌⊎◌, if◌then◌else◌, ℕ, List, [], ◌∷◌, is_some, true, IfOk, IfSome, OnOk, min};
 ghost use Rattle.chunked.specs.Maps.{SortedMap, value_at};
 ghost use Rattle.filter_group.specs.declared.lockstep.Hit.{Hit as AnyHit};
 ghost use Rattle.filter_table.specs.Tables.{IsIncreasing};
@@ -76,6 +76,16 @@ impl Endpoints {
             Held::Nothing => 0,
             Held::One { .. } => 1,
             Held::Many { all } => all.len(),
+        }
+    }
+
+    /// The endpoint, if there is just one.
+    pub(crate) fn only(&self) -> Option<u16>
+        ensures { IfSome result (λ endpoint. (count : ℕ) × (self.now.entries ≡ (endpoint, count) ∷ [])) }
+    {
+        match &self.held {
+            Held::One { endpoint, .. } => Some(*endpoint),
+            _ => None,
         }
     }
 

@@ -137,8 +137,21 @@ impl Numbered {
     }
 }
 
-/// Hits by the numbers of their programs in place of their places.
+/// Hits by the numbers of their programs in place of their places. Most packets have one hit or none.
 fn give_numbers(hits: &mut [Hit], numbers: &[u32])
+    requires { (i : ℕ) (hit : AnyHit) → slice_get hits.old i ≡ Some hit → hit.member < length numbers.now }
+    ensures { hits.new ≡ map (numbered_hit numbers.now) hits.old }
+{
+    match hits {
+        [] => {}
+        [only] => only.member = numbers[only.member] as usize,
+        _ => give_each(hits, numbers),
+    }
+}
+
+/// The same for any hits.
+#[inline(never)]
+fn give_each(hits: &mut [Hit], numbers: &[u32])
     requires { (i : ℕ) (hit : AnyHit) → slice_get hits.old i ≡ Some hit → hit.member < length numbers.now }
     ensures { hits.new ≡ map (numbered_hit numbers.now) hits.old }
 {

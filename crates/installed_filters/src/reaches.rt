@@ -1,10 +1,10 @@
 //! Which endpoints get what the programs with which numbers accept.
-ghost use Rattle.std.specs.Prelude.{◌≡◌, ◌==◌, ◌&&◌, ◌+◌, ◌-◌, ◌<◌, ◌≤◌, ◌++◌, ℕ, List, [], ◌∷◌, Some, false, if◌then◌else◌, is_some, length, slice_get, take, replicate, OnOk, OnErr};
+ghost use Rattle.std.specs.Prelude.{◌≡◌, ◌==◌, ◌&&◌, ◌+◌, ◌-◌, ◌<◌, ◌≤◌, ◌++◌, ℕ, List, [], ◌∷◌, Some, false, if◌then◌else◌, is_some, length, slice_get, take, replicate, min, OnOk, OnErr};
 ghost use Rattle.std.specs.List.{All};
 ghost use Rattle.chunked.specs.Maps.{SortedMap, value_at};
 ghost use Rattle.filter_group.specs.declared.lockstep.Hit.{Hit as AnyHit};
 ghost use Rattle.installed_filters.specs.Counts.{counted, number_of, no_counts, reach_at, reach_key, HasRoom, HasRoomFor, AreWithin, AreIndexed, AreReachKeys, ends_at};
-ghost use Rattle.installed_filters.specs.Keeping.{AreKept, AreApart, GetsBy, GetsNoted, AreNoted};
+ghost use Rattle.installed_filters.specs.Keeping.{at_endpoint, AreKept, AreApart, GetsBy, GetsNoted, AreNoted};
 
 use crate::endpoints::Endpoints;
 use crate::raising::raise;
@@ -142,12 +142,60 @@ impl Reaches {
         requires apart { AreApart hits.now }
         ensures { OnOk result (AreKept (GetsBy self.now.ends hits.now) captured kept.new.items) }
     {
+        match hits {
+            [] => {
+                kept.clear();
+                Ok(())
+            }
+            [hit] => match self.ends[hit.member].only() {
+                Some(endpoint) => {
+                    keep_only(endpoint, hit.verdict, captured, kept)?;
+                    Ok(())
+                }
+                None => self.receive_by_several(hits, captured, verdicts, kept),
+            },
+            _ => self.receive_by_several(hits, captured, verdicts, kept),
+        }
+    }
+
+    /// The same for any hits.
+    // Not in line, so that a packet with one endpoint or none is not charged for the loops.
+    #[inline(never)]
+    fn receive_by_several(
+        &self,
+        hits: &[Hit],
+        captured: usize,
+        verdicts: &mut Vec<u32>,
+        kept: &mut Vec<Kept>,
+    ) -> Result<(), AllocError>
+        requires inside { AreWithin self.now.ends hits.now }
+        requires apart { AreApart hits.now }
+        ensures { OnOk result (AreKept (GetsBy self.now.ends hits.now) captured kept.new.items) }
+    {
         if have_few(&self.ends, hits) {
             keep_few(&self.ends, hits, captured, kept)
         } else {
             keep_many(&self.ends, &self.order, hits, captured, verdicts, kept)
         }
     }
+}
+
+/// The one endpoint that gets a packet, and what it keeps.
+fn keep_only(
+    endpoint: u16,
+    verdict: u32,
+    captured: usize,
+    kept: &mut Vec<Kept>,
+) -> Result<(), AllocError>
+    ensures { OnOk result (kept.new.items ≡ at_endpoint endpoint (min verdict captured) ∷ []) }
+{
+    let most = (verdict as usize).min(captured) as u32;
+    kept.clear();
+    kept.push(Kept {
+        endpoint,
+        kept: most,
+    })?;
+    Ok(())
 }
 
 /// An endpoint of a number, as one number, so that they are in order of endpoint.

@@ -3,7 +3,7 @@ use Rattle.std.proofs.lemmas.Option.{slice_get-get_or}
 use Rattle.filter_group.specs.declared.lockstep.Hit.{Hit}
 use Rattle.filter_group.proofs.InPlace.{next_changed, not_yet}
 use Rattle.installed_filters.specs.Numbering.{numbered_hit}
-use Rattle.installed_filters.proofs.numbered.give_numbers.Goals as goal
+use Rattle.installed_filters.proofs.numbered.give_each.Goals as goal
 
 abbrev no_hit : Hit
 no_hit = record { member = 0; verdict = 0 }
