@@ -287,6 +287,7 @@ fn count_down(all: &mut Sorted<u32>, endpoint: u16)
 }
 
 /// Sees that each endpoint of a map keeps at least so many bytes.
+#[inline(never)]
 fn keep_all(all: &Sorted<u32>, kept: &mut Vec<Kept>, most: u32) -> Result<(), AllocError>
     requires small { AreSmall all.now.entries }
     requires increasing { IsIncreasing kept.old.items }

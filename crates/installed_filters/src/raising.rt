@@ -1,5 +1,5 @@
 //! Lists of what endpoints keep of a packet, in order of endpoint.
-ghost use Rattle.std.specs.Prelude.{◌≡◌, ◌+◌, ◌<◌, ◌≤◌, ℕ, Some, length, slice_get, take, OnOk, MatchOption};
+ghost use Rattle.std.specs.Prelude.{◌≡◌, ◌+◌, ◌<◌, ◌≤◌, ℕ, IsTrue, Some, length, slice_get, take, OnOk, MatchOption};
 ghost use Rattle.std.specs.List.{All};
 ghost use Rattle.filter_table.specs.Tables.{IsIncreasing};
 ghost use Rattle.filter_table.specs.declared.delivery.Kept.{Kept as GhostKept};
@@ -14,6 +14,23 @@ pub(crate) fn raise_within(
     endpoint: u16,
     bytes: u32,
 ) -> Result<(), AllocError>
+    requires { IsIncreasing kept.old.items }
+    ensures { OnOk result (kept.new.items ≡ raised kept.old.items endpoint bytes) }
+{
+    // Mostly it comes last, and none has to make room for it.
+    if is_past(kept, endpoint) {
+        kept.push(Kept {
+            endpoint,
+            kept: bytes,
+        })?;
+        return Ok(());
+    }
+    raise_inside(kept, endpoint, bytes)
+}
+
+/// The same wherever the endpoint belongs.
+#[inline(never)]
+fn raise_inside(kept: &mut Vec<Kept>, endpoint: u16, bytes: u32) -> Result<(), AllocError>
     requires { IsIncreasing kept.old.items }
     ensures { OnOk result (kept.new.items ≡ raised kept.old.items endpoint bytes) }
 {
@@ -32,15 +49,21 @@ pub(crate) fn raise_within(
                 endpoint,
                 kept: bytes,
             };
-            // Mostly it comes last, and none has to make room for it.
-            if place == kept.len() {
-                kept.push(keeps)?;
-                return Ok(());
-            }
             kept.insert(place, keeps)?;
             Ok(())
         }
     }
+}
+
+/// Whether an endpoint comes after all of a list in order of endpoints.
+fn is_past(kept: &[Kept], endpoint: u16) -> bool
+    requires { IsIncreasing kept.now }
+    ensures { IsTrue result → (i : ℕ) (one : GhostKept) → slice_get kept.now i ≡ Some one → one.endpoint < endpoint }
+{
+    if kept.is_empty() {
+        return true;
+    }
+    kept[kept.len() - 1].endpoint < endpoint
 }
 
 /// The place of an endpoint in a list in order of endpoints.
