@@ -70,12 +70,11 @@ impl Endpoints {
         }
     }
 
-    /// How many endpoints there are.
-    pub(crate) fn len(&self) -> usize {
+    /// How many endpoints there are, or 0 where there may be just one.
+    pub(crate) fn mapped(&self) -> usize {
         match &self.held {
-            Held::Nothing => 0,
-            Held::One { .. } => 1,
             Held::Many { all } => all.len(),
+            _ => 0,
         }
     }
 

@@ -29,6 +29,7 @@ pub(crate) fn raise_within(
 }
 
 /// The same wherever the endpoint belongs.
+// Not in line, so that the loops over hits have the registers for themselves.
 #[inline(never)]
 fn raise_inside(kept: &mut Vec<Kept>, endpoint: u16, bytes: u32) -> Result<(), AllocError>
     requires { IsIncreasing kept.old.items }

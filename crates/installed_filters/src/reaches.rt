@@ -17,7 +17,7 @@ use std::marker::Model;
 /// How many numbers there may be.
 const NUMBERS: u64 = 4_294_967_296;
 
-/// Where the programs that a packet passes have at most so many endpoints, only these are looked at.
+/// Where a packet passes at most so many programs, and those with several endpoints have at most so many, only these are looked at.
 const FEW_ENDPOINTS: usize = 16;
 
 /// Of each number of a program the endpoints of the filters that have it, with how many filters each has.
@@ -259,7 +259,7 @@ fn have_few(ends: &[Endpoints], hits: &[Hit]) -> bool
     let mut left = FEW_ENDPOINTS;
     for hit in hits {
         let ends = &ends[hit.member];
-        let count = ends.len();
+        let count = ends.mapped();
         if count > left {
             return false;
         }
