@@ -117,6 +117,7 @@ impl<L: Links> Core<L> {
 }
 
 // The endpoints that get a packet by the shown table, at the front of the room.
+#[inline(always)]
 fn accepting_into(
     replica: &Replica,
     workspace: &mut Workspace,
@@ -142,6 +143,7 @@ fn accepting_into(
 }
 
 // Writes what is kept to the front of the room. Most packets go to one endpoint or none: these need no call that copies memory.
+#[inline(always)]
 fn write_front(room: &mut [Kept], kept: &[Kept])
     requires { length kept.now ≤ length room.old }
     ensures front { take (length kept.now) room.new ≡ kept.now }

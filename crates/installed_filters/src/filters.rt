@@ -225,6 +225,7 @@ impl Filters {
 
     /// The endpoints that get a packet, in increasing order, each with the number of bytes that it keeps, in place of what the workspace
     /// kept. Takes memory only where the workspace was never as long as the packet needs.
+    #[inline(always)]
     pub fn accepting_with(
         &self,
         workspace: &mut Workspace,

@@ -17,7 +17,8 @@ use std::marker::Model;
 /// How many numbers there may be.
 const NUMBERS: u64 = 4_294_967_296;
 
-/// Where a packet passes at most so many programs, and those with several endpoints have at most so many, only these are looked at.
+/// Where a packet passes at most so many programs, and those of them with several endpoints have at most so many in all, only
+/// these are looked at.
 const FEW_ENDPOINTS: usize = 16;
 
 /// Of each number of a program the endpoints of the filters that have it, with how many filters each has.

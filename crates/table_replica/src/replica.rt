@@ -188,6 +188,7 @@ impl Replica {
     }
 
     /// The same, in place of what the workspace kept. Takes memory only where the workspace was never as long as the packet needs.
+    #[inline(always)]
     pub fn accepting_with(
         &self,
         workspace: &mut Workspace,
