@@ -122,6 +122,7 @@ impl Numbered {
 
     /// Runs all programs over a packet. Afterwards `lists.hits` has those that end with a verdict above 0, by their numbers. Takes memory
     /// only where the lists are too short for the packet.
+    #[inline(always)]
     pub(crate) fn run(
         &self,
         lists: &mut Lists,
@@ -138,6 +139,7 @@ impl Numbered {
 }
 
 /// Hits by the numbers of their programs in place of their places. Most packets have one hit or none.
+#[inline(always)]
 fn give_numbers(hits: &mut [Hit], numbers: &[u32])
     requires { (i : ℕ) (hit : AnyHit) → slice_get hits.old i ≡ Some hit → hit.member < length numbers.now }
     ensures { hits.new ≡ map (numbered_hit numbers.now) hits.old }

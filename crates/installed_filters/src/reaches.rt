@@ -132,6 +132,7 @@ impl Reaches {
 
     /// The endpoints that get a packet that these programs pass, in increasing order, in place of what `kept` had: each keeps as much as
     /// the greatest verdict says, and at most what was captured. Takes memory only where the lists are too short for the packet.
+    #[inline(always)]
     pub(crate) fn receive(
         &self,
         hits: &[Hit],
@@ -182,6 +183,7 @@ impl Reaches {
 }
 
 /// The one endpoint that gets a packet, and what it keeps.
+#[inline(always)]
 fn keep_only(
     endpoint: u16,
     verdict: u32,
