@@ -183,7 +183,6 @@ impl Reaches {
 }
 
 /// The one endpoint that gets a packet, and what it keeps.
-#[inline(always)]
 fn keep_only(
     endpoint: u16,
     verdict: u32,
