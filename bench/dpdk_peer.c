@@ -1,6 +1,7 @@
-/* Filters by mkdemux_receive, beside libpcap's bpf_filter in a loop, a loop over the code that DPDK's JIT (librte_bpf) makes of each, and
+/* Filters by mkdemux_receive and, 32 packets at a time, mkdemux_receive_burst, beside libpcap's bpf_filter in a loop, a loop over the code that DPDK's JIT (librte_bpf) makes of each, and
    DPDK's classifier (librte_acl), which takes rules in place of programs, 32 packets at a time.
-   dpdk_peer ROUNDS   prints nanoseconds of processor time a packet, and the middle, least and greatest ratio to each peer in its round
+   dpdk_peer ROUNDS   prints nanoseconds of processor time a packet, and for each peer the middle ratio of its round, the least and the
+                      greatest: of one packet at a time, and of a burst to the classifier
    Packets lie in an array of 2,000, which the cache holds, or of 500,000, which it doesn't: 64 MB. */
 #define _GNU_SOURCE
 #include <pcap.h>
@@ -17,8 +18,8 @@
 #include "mkdemux_cores.h"
 
 enum { SIZE = 128, FEW = 2000, MANY = 500000, MOST = 1024, BURST = 32, MOST_ROUNDS = 101, FIRST_PORT = 1000 };
-enum way { OURS, LOOP, JIT, ACL, WAYS };
-static const char *const names[WAYS] = {"mkdemux_receive", "bpf_filter", "the JIT", "rte_acl"};
+enum way { OURS, OURS_IN_BURSTS, LOOP, JIT, ACL, WAYS };
+static const char *const names[WAYS] = {"mkdemux_receive", "mkdemux_receive_burst", "bpf_filter", "the JIT", "rte_acl"};
 
 static uint8_t (*packets)[SIZE];
 static struct rte_mbuf *buffers;
@@ -170,6 +171,19 @@ static uint64_t run(enum way way)
                 die("a packet isn't received");
             hits += count;
         }
+    } else if (way == OURS_IN_BURSTS) {
+        struct mkdemux_kept room[BURST * MOST];
+        size_t counts[BURST], done;
+        for (size_t i = 0; i < used; i += BURST) {
+            struct mkdemux_packet burst[BURST];
+            size_t count = used - i < BURST ? used - i : BURST;
+            for (size_t j = 0; j < count; j++)
+                burst[j] = (struct mkdemux_packet){packets[i + j], SIZE, SIZE};
+            if (mkdemux_receive_burst(&core, burst, count, room, BURST * MOST, counts, &done))
+                die("a burst isn't received");
+            for (size_t j = 0; j < count; j++)
+                hits += counts[j];
+        }
     } else if (way == LOOP) {
         for (size_t i = 0; i < used; i++)
             for (uint32_t f = 0; f < filters; f++)
@@ -208,7 +222,7 @@ static double middle(double *values, int count)
 /* A loop over 1,000 filters takes too long where there are many packets. */
 static bool is_measured(enum way way, bool classified)
 {
-    return way == OURS || (way == ACL ? classified : filters <= 16 || used == FEW);
+    return way <= OURS_IN_BURSTS || (way == ACL ? classified : filters <= 16 || used == FEW);
 }
 
 static void measure(const char *what, bool classified, int rounds)
@@ -216,7 +230,7 @@ static void measure(const char *what, bool classified, int rounds)
     static double times[WAYS][MOST_ROUNDS], ratios[MOST_ROUNDS];
     int repeats = used == FEW ? 20 : 1;
     uint64_t hits = run(OURS);
-    for (enum way way = LOOP; way < WAYS; way++)
+    for (enum way way = OURS_IN_BURSTS; way < WAYS; way++)
         if (is_measured(way, classified) && run(way) != hits)
             die("two ways differ");
     for (int round = 0; round < rounds; round++)
@@ -230,12 +244,13 @@ static void measure(const char *what, bool classified, int rounds)
     for (enum way way = LOOP; way < WAYS; way++)
         if (is_measured(way, classified)) {
             for (int round = 0; round < rounds; round++)
-                ratios[round] = times[OURS][round] / times[way][round];
+                ratios[round] = times[way == ACL ? OURS_IN_BURSTS : OURS][round] / times[way][round];
             double ratio = middle(ratios, rounds);
             printf("%.2f (%.2f to %.2f) of %s, ", ratio, ratios[0], ratios[rounds - 1], names[way]);
             printf("%.1f ns; ", middle(times[way], rounds));
         }
-    printf("%s %.1f ns\n", names[OURS], middle(times[OURS], rounds));
+    printf("%s %.1f ns, ", names[OURS], middle(times[OURS], rounds));
+    printf("%s %.1f ns\n", names[OURS_IN_BURSTS], middle(times[OURS_IN_BURSTS], rounds));
     fflush(stdout);
 }
 
