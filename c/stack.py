@@ -14,11 +14,11 @@ import sys
 
 # Bytes that a call may take; all that aren't named take at most 2,048.
 MOST = {
-    "mkdemux_boot_cores": 7072,
-    "mkdemux_boot_limits_cores": 7072,
+    "mkdemux_boot_cores": 7136,
+    "mkdemux_boot_limits_cores": 7136,
     "mkdemux_turn": 4800,
     "mkdemux_settle": 4800,
-    "mkdemux_close_core": 3328,
+    "mkdemux_close_core": 3392,
     "mkdemux_assemble": 6656,
 }
 OTHERS = 2048
