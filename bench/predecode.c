@@ -1,6 +1,6 @@
-/* Times predecoded programs beside the proved machine and libpcap's bpf_filter, in one process, by the processor time of its thread, in rounds that
-   are interleaved; and compares verdicts and steps with the machine's.
-   Arguments: a file of libpcap's expressions, one a line, and how many random programs to compare. */
+/* Compares the verdicts and steps of predecoded programs with the proved machine's, on random programs; and times them beside it and libpcap's
+   bpf_filter, in one process, by the processor time of its thread, in rounds that are interleaved.
+   Arguments: how many random programs to compare, and, to time programs too, a file of libpcap's expressions, one a line. */
 #include <pcap.h>
 #include <stdint.h>
 #include <stdio.h>
@@ -283,11 +283,13 @@ static void hard(const char *name, int which)
 
 int main(int argc, char **argv)
 {
-    if (argc < 3)
+    if (argc < 2)
         return 2;
     fill();
-    random_programs(strtoul(argv[2], NULL, 10));
-    real_filters(argv[1]);
+    random_programs(strtoul(argv[1], NULL, 10));
+    if (argc == 2)
+        return 0;
+    real_filters(argv[2]);
     static const char *names[] = {"equal, all constants differ", "equal, one constant", "equal, each constant twice", "jumps into the middle of chains",
         "load, mask, equal", "two loads by turns", "any bit", "greater", "scratch words", "sums", "jumps alone", "header lengths and indexed loads",
         "loads at the front", "a load and a sum by turns"};

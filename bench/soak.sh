@@ -3,10 +3,11 @@
 # one list of events, where each answer must be the same. Each job must be received or left, once. As many machines are asked, turned and given
 # packets in a random order by one thread, and what they did is done again in the same way. A machine of threads is settled in the end, and must
 # be at rest; a quarter of them halt early. Any other outcome of a run is printed, and the status is then 1. Where the program is built,
-# scripts are then run by it, 1,000 times each, and each trace done again by `sim` (repeat.sh).
+# scripts are then run by it, 1,000 times each, and each trace done again by `sim` (repeat.sh). Last, where libpcap is there, the verdicts and
+# steps of a million random programs, predecoded, are compared with the proved machine's (predecode.sh).
 # Usage: bench/soak.sh [FOLDER [RUNS [FIRST]]]. 10,000 runs, unless said otherwise; FIRST is the number of the first, which says what its work is. FOLDER,
 # by default a new one, is where it builds; it keeps what was proved for the next run, and takes what the repository's own checks have kept.
-# Needs rt, clang and git on the path.
+# Needs rt, clang and git on the path, and for the last part libpcap's header and library (Debian: libpcap-dev).
 unset CDPATH
 set -e
 here=$(cd "$(dirname "$0")" && pwd)
@@ -19,4 +20,9 @@ if [ -x "$here/../crates/mkdemux/out/mkdemux" ]; then
     "$here/repeat.sh" 1000
 else
     echo "soak: no trace is done again by sim, since the program isn't built" >&2
+fi
+if [ -f /usr/include/pcap.h ]; then
+    "$here/predecode.sh" --compare "$work"
+else
+    echo "soak: no predecoded programs are compared, since there is no pcap.h" >&2
 fi
