@@ -17,3 +17,4 @@ pub mod RoundTrip
 pub mod FitsLemmas
 pub mod LeadsLemmas
 pub mod FormedLemmas
+pub mod JoiningLemmas

@@ -18,3 +18,4 @@ pub mod Fits
 pub mod Leads
 pub mod Faults
 pub mod ShortNumber
+pub mod Joining
