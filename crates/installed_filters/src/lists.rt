@@ -7,7 +7,6 @@ use crate::numbered::Numbered;
 use filter_group::Shared;
 use std::alloc::{AllocError, Global};
 use std::marker::Model;
-use std::mem;
 
 /// The programs that a packet is run on, and the others.
 pub(crate) struct Lists {
@@ -40,13 +39,21 @@ impl Lists {
         }
     }
 
-    /// The same lists.
-    fn copy(&self, alloc: Global) -> Result<Lists, AllocError>
-        ensures { IfOk result (λ lists. lists ≡ self.now) }
+    /// Makes others the lists once a new program runs. Without memory those are of no use any more.
+    fn start_into(
+        &self,
+        alloc: Global,
+        program: &Shared,
+        number: u32,
+        next: &mut Lists,
+    ) -> Result<(), AllocError>
+        requires { IsFresh self.now.running number program.now }
+        ensures running { OnOk result (IsWith self.now.running number program.now next.new.running) }
+        ensures resting { OnOk result (next.new.resting ≡ self.now.resting) }
     {
-        let running = self.running.copy(alloc)?;
-        let resting = self.resting.copy(alloc)?;
-        Ok(Lists { running, resting })
+        self.running
+            .with_into(alloc, program, number, &mut next.running)?;
+        self.resting.copy_into(alloc, &mut next.resting)
     }
 
     /// A program that runs goes to rest. Those that run then have no plan. Without memory the lists are of no use any more.
@@ -56,52 +63,10 @@ impl Lists {
         ensures running { OnOk result (IsWithout self.old.running program.now self.new.running) }
         ensures resting { OnOk result (IsWith self.old.resting number program.now self.new.resting) }
     {
-        take_out(&mut self.running, alloc, program)?;
-        put_in(&mut self.resting, alloc, program, number)?;
+        self.running.take_out(alloc, program)?;
+        self.resting.add(alloc, program, number)?;
         Ok(())
     }
-}
-
-/// Programs get one more. Without memory they stay.
-// Not in line, so that its room on the stack isn't there while others are made.
-#[inline(never)]
-fn put_in(
-    programs: &mut Numbered,
-    alloc: Global,
-    program: &Shared,
-    number: u32,
-) -> Result<(), AllocError>
-    requires { IsFresh programs.old number program.now }
-    ensures { OnOk result (IsWith programs.old number program.now programs.new) }
-{
-    let more = programs.with(alloc, program, number)?;
-    *programs = more;
-    Ok(())
-}
-
-/// Programs lose one, and have no plan then. Without memory none is left.
-// Not in line, so that its room on the stack isn't there while others are made.
-#[inline(never)]
-fn take_out(programs: &mut Numbered, alloc: Global, program: &Shared) -> Result<(), AllocError>
-    requires { (number : ℕ) × Has programs.old number program.now }
-    ensures { OnOk result (IsWithout programs.old program.now programs.new) }
-{
-    let old = mem::replace(programs, Numbered::new(alloc));
-    let less = old.less(alloc, program)?;
-    *programs = less;
-    Ok(())
-}
-
-/// Programs get a plan of which of them a packet is run on. Without memory none is left.
-// Not in line, so that its room on the stack isn't there while others are made.
-#[inline(never)]
-fn plan(programs: &mut Numbered, alloc: Global) -> Result<(), AllocError>
-    ensures { OnOk result (programs.new ≡ programs.old) }
-{
-    let old = mem::replace(programs, Numbered::new(alloc));
-    let planned = old.planned(alloc)?;
-    *programs = planned;
-    Ok(())
 }
 
 /// The lists after a change that is planned. They lie on the heap, so that what holds them is small.
@@ -128,11 +93,11 @@ impl Model for NextLists {
 }
 
 impl NextLists {
-    /// These lists.
-    fn of(alloc: Global, lists: Lists) -> Result<NextLists, AllocError>
-        ensures { IfOk result (λ next. next ≡ lists) }
-    {
-        let lists = Box::new(alloc, lists)?;
+    /// No program.
+    // Not in line, so that its room on the stack isn't there while programs are put in.
+    #[inline(never)]
+    fn empty(alloc: Global) -> Result<NextLists, AllocError> {
+        let lists = Box::new(alloc, Lists::new(alloc))?;
         Ok(NextLists { lists })
     }
 
@@ -140,7 +105,10 @@ impl NextLists {
     pub(crate) fn copy(alloc: Global, lists: &Lists) -> Result<NextLists, AllocError>
         ensures { IfOk result (λ next. next ≡ lists.now) }
     {
-        NextLists::of(alloc, lists.copy(alloc)?)
+        let mut next = NextLists::empty(alloc)?;
+        lists.running.copy_into(alloc, &mut next.lists.running)?;
+        lists.resting.copy_into(alloc, &mut next.lists.resting)?;
+        Ok(next)
     }
 
     /// The lists once a new program runs. Those that run then have no plan.
@@ -156,20 +124,9 @@ impl NextLists {
         ensures running { IfOk result (λ next. IsWith lists.now.running number program.now next.running) }
         ensures resting { IfOk result (λ next. next.resting ≡ lists.now.resting) }
     {
-        let running = lists.running.with(alloc, program, number)?;
-        let next = NextLists::beside(alloc, running, &lists.resting)?;
+        let mut next = NextLists::empty(alloc)?;
+        lists.start_into(alloc, program, number, &mut next.lists)?;
         Ok(next)
-    }
-
-    /// These programs run, and others rest.
-    // Not in line, so that its room on the stack isn't there while those that run are made.
-    #[inline(never)]
-    fn beside(alloc: Global, running: Numbered, resting: &Numbered) -> Result<NextLists, AllocError>
-        ensures running { IfOk result (λ next. next.running ≡ running) }
-        ensures resting { IfOk result (λ next. next.resting ≡ resting.now) }
-    {
-        let resting = resting.copy(alloc)?;
-        NextLists::of(alloc, Lists { running, resting })
     }
 
     /// The lists once a program that rests runs again. Those that run then have no plan.
@@ -202,7 +159,7 @@ impl NextLists {
         ensures { IfOk result (λ next. next ≡ self) }
     {
         let NextLists { mut lists } = self;
-        plan(&mut lists.running, alloc)?;
+        lists.running.plan(alloc)?;
         Ok(NextLists { lists })
     }
 
@@ -230,7 +187,7 @@ impl NextLists {
         ensures resting { IfOk result (λ lists. lists.resting ≡ self.resting) }
     {
         let NextLists { mut lists } = self;
-        take_out(&mut lists.running, alloc, program)?;
+        lists.running.take_out(alloc, program)?;
         Ok(NextLists { lists })
     }
 
@@ -241,7 +198,7 @@ impl NextLists {
         ensures resting { IfOk result (λ lists. IsWithout self.resting program.now lists.resting) }
     {
         let NextLists { mut lists } = self;
-        take_out(&mut lists.resting, alloc, program)?;
+        lists.resting.take_out(alloc, program)?;
         Ok(NextLists { lists })
     }
 }

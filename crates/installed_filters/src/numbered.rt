@@ -1,5 +1,5 @@
 //! Programs with numbers.
-ghost use Rattle.std.specs.Prelude.{◌≡◌, ◌<◌, ◌^◌, ◌↔◌, ◌⊎◌, ℕ, [], length, map, IfOk, OnOk, MatchOption, Some, slice_get};
+ghost use Rattle.std.specs.Prelude.{◌≡◌, ◌<◌, ◌^◌, ◌↔◌, ◌⊎◌, ◌++◌, ◌∷◌, ℕ, [], length, map, IfOk, OnOk, MatchOption, Some, slice_get};
 ghost use Rattle.filter_group.specs.declared.lockstep.Hit.{Hit as AnyHit};
 ghost use Rattle.bpf_insn.specs.declared.insn.Insn.{Insn as AnyInsn};
 ghost use Rattle.std.specs.Prelude.{List};
@@ -8,6 +8,7 @@ ghost use Rattle.installed_filters.specs.Numbering.{Has, IsFresh, AreHitsBy, Are
 use filter_group::{Hit, Lists, Programs, Shared};
 use std::alloc::{AllocError, Global};
 use std::marker::Model;
+use std::mem;
 
 /// Different programs, each with a number of its own. Those of one shape run together.
 pub(crate) struct Numbered {
@@ -68,56 +69,80 @@ impl Numbered {
         }
     }
 
-    /// The same programs.
-    pub(crate) fn copy(&self, alloc: Global) -> Result<Numbered, AllocError>
-        ensures { IfOk result (λ copy. copy ≡ self.now) }
+    /// Makes others the same programs. Without memory these stay.
+    // Not in line, and the place is handed down, so that lists take room on the stack one at a time.
+    #[inline(never)]
+    pub(crate) fn copy_into(&self, alloc: Global, copy: &mut Numbered) -> Result<(), AllocError>
+        ensures { OnOk result (copy.new ≡ self.now) }
     {
         let numbers = Vec::from_slice(alloc, &self.numbers)?;
         let programs = self.programs.copy(alloc)?;
-        Ok(Numbered { programs, numbers })
+        *copy = Numbered { programs, numbers };
+        Ok(())
     }
 
-    /// The programs and one more, with a number of its own.
-    pub(crate) fn with(
+    /// Makes others these programs and one more, with a number of its own. Without memory they stay.
+    #[inline(never)]
+    pub(crate) fn with_into(
         &self,
         alloc: Global,
         program: &Shared,
         number: u32,
-    ) -> Result<Numbered, AllocError>
+        more: &mut Numbered,
+    ) -> Result<(), AllocError>
         requires { IsFresh self.now number program.now }
-        ensures { IfOk result (λ more. (other : ℕ) (listed : List AnyInsn) → Has more other listed ↔ (Has self.now other listed ⊎ ((other ≡ number) × (listed ≡ program.now)))) }
+        ensures { OnOk result ((other : ℕ) (listed : List AnyInsn) → Has more.new other listed ↔ (Has self.now other listed ⊎ ((other ≡ number) × (listed ≡ program.now)))) }
     {
-        let mut numbers = Vec::with_capacity(alloc, self.numbers.len() + 1)?;
-        numbers.extend_from_slice(&self.numbers)?;
-        numbers.push(number)?;
+        let numbers = numbers_with(alloc, &self.numbers, number)?;
         let programs = self.programs.with(alloc, program)?;
-        Ok(Numbered { programs, numbers })
+        *more = Numbered { programs, numbers };
+        Ok(())
     }
 
-    /// The programs without one. They have no plan.
-    pub(crate) fn less(self, alloc: Global, program: &Shared) -> Result<Numbered, AllocError>
-        requires { (number : ℕ) × Has self number program.now }
-        ensures { IfOk result (λ left. (number : ℕ) (other : List AnyInsn) → Has left number other ↔ (Has self number other × (other ≡ program.now → ⊥))) }
+    /// Adds a program, with a number of its own. Without memory the programs stay.
+    #[inline(never)]
+    pub(crate) fn add(
+        &mut self,
+        alloc: Global,
+        program: &Shared,
+        number: u32,
+    ) -> Result<(), AllocError>
+        requires { IsFresh self.old number program.now }
+        ensures { OnOk result ((other : ℕ) (listed : List AnyInsn) → Has self.new other listed ↔ (Has self.old other listed ⊎ ((other ≡ number) × (listed ≡ program.now)))) }
+    {
+        let numbers = numbers_with(alloc, &self.numbers, number)?;
+        let programs = self.programs.with(alloc, program)?;
+        *self = Numbered { programs, numbers };
+        Ok(())
+    }
+
+    /// Takes a program out. The others have no plan. Without memory none is left.
+    #[inline(never)]
+    pub(crate) fn take_out(&mut self, alloc: Global, program: &Shared) -> Result<(), AllocError>
+        requires { (number : ℕ) × Has self.old number program.now }
+        ensures { OnOk result ((number : ℕ) (other : List AnyInsn) → Has self.new number other ↔ (Has self.old number other × (other ≡ program.now → ⊥))) }
     {
         let Some(place) = self.programs.place_of(program) else {
             unreachable!()
         };
-        let Numbered {
-            programs,
-            mut numbers,
-        } = self;
+        let programs = mem::replace(&mut self.programs, Programs::new(alloc));
+        let mut numbers = mem::replace(&mut self.numbers, Vec::new(alloc));
         numbers.swap_remove(place);
         let programs = programs.without(alloc, place)?;
-        Ok(Numbered { programs, numbers })
+        *self = Numbered { programs, numbers };
+        Ok(())
     }
 
-    /// The same programs, with a plan of which of them a packet is run on.
-    pub(crate) fn planned(self, alloc: Global) -> Result<Numbered, AllocError>
-        ensures { IfOk result (λ planned. planned ≡ self) }
+    /// Makes a plan of which of the programs a packet is run on. Without memory none is left.
+    #[inline(never)]
+    pub(crate) fn plan(&mut self, alloc: Global) -> Result<(), AllocError>
+        ensures { OnOk result (self.new ≡ self.old) }
     {
-        let Numbered { programs, numbers } = self;
+        let programs = mem::replace(&mut self.programs, Programs::new(alloc));
+        let numbers = mem::replace(&mut self.numbers, Vec::new(alloc));
         let programs = programs.planned(alloc)?;
-        Ok(Numbered { programs, numbers })
+        *self = Numbered { programs, numbers };
+        Ok(())
     }
 
     /// Runs all programs over a packet. Afterwards `lists.hits` has those that end with a verdict above 0, by their numbers. Takes memory
@@ -136,6 +161,16 @@ impl Numbered {
         give_numbers(&mut lists.hits, &self.numbers);
         Ok(())
     }
+}
+
+/// Numbers and one more, last.
+fn numbers_with(alloc: Global, numbers: &[u32], number: u32) -> Result<Vec<u32>, AllocError>
+    ensures { IfOk result (λ more. more.items ≡ numbers.now ++ number ∷ []) }
+{
+    let mut more = Vec::with_capacity(alloc, numbers.len() + 1)?;
+    more.extend_from_slice(numbers)?;
+    more.push(number)?;
+    Ok(more)
 }
 
 /// Hits by the numbers of their programs in place of their places. Most packets have one hit or none.

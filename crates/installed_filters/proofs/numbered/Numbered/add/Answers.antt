@@ -2,29 +2,27 @@ use Rattle.std.proofs.Common.{◌↔◌, ◌⊎◌, ◌++◌, ◌∷◌, ◌≡�
 use Rattle.bpf_insn.specs.declared.insn.Insn.{Insn}
 use Rattle.installed_filters.specs.Numbering.{AreNumbered, Has, IsFresh, Numbering}
 use Rattle.installed_filters.proofs.Numbers.{has_with, numbered_more}
-use Rattle.installed_filters.proofs.numbered.Numbered.with.Goals as goal
+use Rattle.installed_filters.proofs.numbered.Numbered.add.Goals as goal
 
-pub invariant_of-result : goal.invariant_of-result
-invariant_of-result c =
+pub invariant_of-self : goal.invariant_of-self
+invariant_of-self c =
     let programs = c.self.inside.programs in
     let before = c.self.inside.numbers.items in
-    let numbers : c.push.new.self.items ≡ before ++ c.args.number ∷ [] =
-    c.in_ok-push.ensures.items ∙ ap (λ (ns : List ℕ). ns ++ c.args.number ∷ [])
-    (c.in_ok-extend_from_slice.ensures.items ∙ (ap (λ (ns : List ℕ). ns ++ c.deref.result.now) c.in_ok-numbers.ensures.items ∙ c.deref.ensures.value)) in
+    let numbers : c.in_ok-numbers.numbers.items ≡ before ++ c.args.number ∷ [] =
+    c.in_ok-numbers.ensures ∙ ap (λ (ns : List ℕ). ns ++ c.args.number ∷ []) c.deref.ensures.value in
     let fresh = subst (λ (n : Numbering). IsFresh n c.args.number c.args.program.now) (sym c.self.view_is) c.requires in
-    subst (λ (ps : List (List Insn)). AreNumbered (record { programs = ps; numbers = c.push.new.self.items })) (sym c.in_ok-programs.ensures)
+    subst (λ (ps : List (List Insn)). AreNumbered (record { programs = ps; numbers = c.in_ok-numbers.numbers.items })) (sym c.in_ok-programs.ensures)
     (subst (λ (ns : List ℕ). AreNumbered (record { programs = programs ++ c.args.program.now ∷ []; numbers = ns })) (sym numbers)
     (numbered_more (record { programs = programs; numbers = before }) c.args.program.now c.args.number fresh c.self.invariant))
 
 pub returns : goal.returns
 returns c = λ other listed.
     let before : Numbering = record { programs = c.self.inside.programs; numbers = c.self.inside.numbers.items } in
-    let after : Numbering = record { programs = c.in_ok-programs.programs; numbers = c.push.new.self.items } in
-    let numbers : c.push.new.self.items ≡ before.numbers ++ c.args.number ∷ [] =
-    c.in_ok-push.ensures.items ∙ ap (λ (ns : List ℕ). ns ++ c.args.number ∷ [])
-    (c.in_ok-extend_from_slice.ensures.items ∙ (ap (λ (ns : List ℕ). ns ++ c.deref.result.now) c.in_ok-numbers.ensures.items ∙ c.deref.ensures.value)) in
+    let after : Numbering = record { programs = c.in_ok-programs.programs; numbers = c.in_ok-numbers.numbers.items } in
+    let numbers : c.in_ok-numbers.numbers.items ≡ before.numbers ++ c.args.number ∷ [] =
+    c.in_ok-numbers.ensures ∙ ap (λ (ns : List ℕ). ns ++ c.args.number ∷ []) c.deref.ensures.value in
     let is : after ≡ record { programs = before.programs ++ c.args.program.now ∷ []; numbers = before.numbers ++ c.args.number ∷ [] } =
-    ap (λ (ps : List (List Insn)). record { programs = ps; numbers = c.push.new.self.items }) c.in_ok-programs.ensures
+    ap (λ (ps : List (List Insn)). record { programs = ps; numbers = c.in_ok-numbers.numbers.items }) c.in_ok-programs.ensures
     ∙ ap (λ (ns : List ℕ). record { programs = before.programs ++ c.args.program.now ∷ []; numbers = ns }) numbers in
     subst (λ (n : Numbering). Has after other listed ↔ (Has n other listed ⊎ ((other ≡ c.args.number) × (listed ≡ c.args.program.now)))) c.self.view_is
     (has_with before after c.args.number c.args.program.now c.self.invariant.lengths is other listed)
