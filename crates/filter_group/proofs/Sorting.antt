@@ -12,7 +12,7 @@ use Rattle.std.proofs.lemmas.Bool.Decides.{nat_tests}
 use Rattle.std.proofs.lemmas.List.{length_push, length-drop}
 use Rattle.std.proofs.lemmas.Option.{slice_get_within, slice_get-get_or}
 use Rattle.bpf_insn.specs.declared.insn.Insn.{Insn}
-use Rattle.filter_group.specs.Order.{IsOrder, IsRank, constant_cmp, place_once_taken, program_cmp, shape_cmp}
+use Rattle.filter_group.specs.Order.{IsOrder, IsRank, constant_cmp, place_once_taken, program_cmp, shape_cmp, shape_constant}
 use Rattle.filter_group.specs.Programs.{AreWithout, IsAmong, place_before}
 use Rattle.filter_group.proofs.Edits.{insert_below, insert_here, insert_above, remove_below, remove_above, IsPut, put_before, put_it, put_after, is_put, IsLeft, left_before, left_after, is_left, pushed_below, pushed_here}
 use Rattle.filter_group.proofs.Indexed.{mapped, is_mapped, map_at}
@@ -30,7 +30,8 @@ nat_same : (a b : ℕ) → nat_cmp a b ≡ Equal → a ≡ b
 nat_same a b e = ranked a b Equal (sym e)
 
 shape_total : IsTotalOrder shape_cmp
-shape_total = then_total (on_total (λ (i : Insn). i.code) nat_cmp_total) (then_total (on_total (λ (i : Insn). i.jt) nat_cmp_total) (on_total (λ (i : Insn). i.jf) nat_cmp_total))
+shape_total = then_total (on_total (λ (i : Insn). i.code) nat_cmp_total) (then_total (on_total (λ (i : Insn). i.jt) nat_cmp_total)
+    (then_total (on_total (λ (i : Insn). i.jf) nat_cmp_total) (on_total shape_constant nat_cmp_total)))
 
 constant_total : IsTotalOrder constant_cmp
 constant_total = on_total (λ (i : Insn). i.k) nat_cmp_total
@@ -41,17 +42,20 @@ program_total = then_total (lists_total shape_total) (lists_total constant_total
 insn_same : (a b : Insn) → shape_cmp a b ≡ Equal → constant_cmp a b ≡ Equal → a ≡ b
 insn_same a b shape constant = λ j. record { code = code j; jt = jt j; jf = jf j; k = k j }
   where
-    code : a.code ≡ b.code
-    code = nat_same a.code b.code (then_equal (nat_cmp a.code b.code) (ordering_then (nat_cmp a.jt b.jt) (nat_cmp a.jf b.jf)) shape).0
+    after_jf : Ordering
+    after_jf = ordering_then (nat_cmp a.jf b.jf) (nat_cmp (shape_constant a) (shape_constant b))
 
-    jumps : ordering_then (nat_cmp a.jt b.jt) (nat_cmp a.jf b.jf) ≡ Equal
-    jumps = (then_equal (nat_cmp a.code b.code) (ordering_then (nat_cmp a.jt b.jt) (nat_cmp a.jf b.jf)) shape).1
+    code : a.code ≡ b.code
+    code = nat_same a.code b.code (then_equal (nat_cmp a.code b.code) (ordering_then (nat_cmp a.jt b.jt) after_jf) shape).0
+
+    jumps : ordering_then (nat_cmp a.jt b.jt) after_jf ≡ Equal
+    jumps = (then_equal (nat_cmp a.code b.code) (ordering_then (nat_cmp a.jt b.jt) after_jf) shape).1
 
     jt : a.jt ≡ b.jt
-    jt = nat_same a.jt b.jt (then_equal (nat_cmp a.jt b.jt) (nat_cmp a.jf b.jf) jumps).0
+    jt = nat_same a.jt b.jt (then_equal (nat_cmp a.jt b.jt) after_jf jumps).0
 
     jf : a.jf ≡ b.jf
-    jf = nat_same a.jf b.jf (then_equal (nat_cmp a.jt b.jt) (nat_cmp a.jf b.jf) jumps).1
+    jf = nat_same a.jf b.jf (then_equal (nat_cmp a.jf b.jf) (nat_cmp (shape_constant a) (shape_constant b)) (then_equal (nat_cmp a.jt b.jt) after_jf jumps).1).0
 
     k : a.k ≡ b.k
     k = nat_same a.k b.k constant

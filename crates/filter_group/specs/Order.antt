@@ -1,15 +1,28 @@
 -- The order of programs, by which one is found among others: by shape, and by constants where the shape is one.
 -- No public clause cites these.
-use Rattle.std.specs.Prelude.{◌≡◌, ◌<◌, ◌≤◌, ℕ, length, false, cond, ◌==◌, List, Some, slice_get}
+use Rattle.std.specs.Prelude.{◌≡◌, ◌<◌, ◌≤◌, ℕ, min, length, false, cond, ◌==◌, List, Option, Some, slice_get}
 use Rattle.std.specs.declared.cmp.Ordering.{Ordering}
 use Rattle.std.specs.declared.cmp.Ordering.TheVariants.{Less}
 use Rattle.std.specs.Ordering.{nat_cmp, on, then_cmp, is_gt}
 use Rattle.std.specs.Cmp.Lexicographic.{slice_cmp}
 use Rattle.bpf_insn.specs.declared.insn.Insn.{Insn}
+use Rattle.bpf_insn.specs.declared.form.Form.{Form}
+use Rattle.bpf_insn.specs.declared.form.Form.TheVariants.{JmpK, RetK}
+use Rattle.bpf_insn.specs.Table.{form_of}
 
--- two instructions, but for their constants
+-- the constant of an instruction of this form, as far as programs of one shape have it alike: what a jump compares with may differ, and
+-- of what is returned whether it is 0 is alike
+abbrev pub constant_alike : Option Form → ℕ → ℕ
+constant_alike (Some (JmpK test k jt jf)) constant = 0
+constant_alike (Some (RetK k)) constant = min k 1
+constant_alike _ constant = constant
+
+abbrev pub shape_constant : Insn → ℕ
+shape_constant insn = constant_alike (form_of insn) insn.k
+
+-- two instructions, but for the constants that may differ in programs of one shape
 abbrev pub shape_cmp : Insn → Insn → Ordering
-shape_cmp = then_cmp (on (λ i. i.code) nat_cmp) (then_cmp (on (λ i. i.jt) nat_cmp) (on (λ i. i.jf) nat_cmp))
+shape_cmp = then_cmp (on (λ i. i.code) nat_cmp) (then_cmp (on (λ i. i.jt) nat_cmp) (then_cmp (on (λ i. i.jf) nat_cmp) (on shape_constant nat_cmp)))
 
 abbrev pub constant_cmp : Insn → Insn → Ordering
 constant_cmp = on (λ i. i.k) nat_cmp

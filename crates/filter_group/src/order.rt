@@ -1,37 +1,18 @@
 //! The order of programs, by which one is found.
 
 ghost use Rattle.std.specs.Prelude.{◌≡◌, ◌<◌, ◌≤◌, ℕ, IfOk, IsTrue, IsFalse, Some, length, map, slice_get};
-ghost use Rattle.std.specs.declared.cmp.Ordering.TheVariants.{Equal};
 ghost use Rattle.std.specs.List.{insert, remove};
-ghost use Rattle.filter_group.specs.Order.{IsOrder, IsRank, place_once_taken, program_cmp, shape_cmp};
+ghost use Rattle.filter_group.specs.Order.{IsOrder, IsRank, place_once_taken, program_cmp};
 
 use crate::placements::Placements;
-use crate::places::are_one_shape;
+use crate::shape::{are_one_shape, is_alike, shape_order};
 use bpf_insn::Insn;
 use filter_verify::Verified;
 use std::alloc::{AllocError, Global};
 use std::cmp::Ordering;
 
-/// How two instructions are ordered, but for their constants.
-fn shape_order(a: Insn, b: Insn) -> Ordering
-    ensures { result ≡ shape_cmp a b }
-{
-    a.code
-        .cmp(&b.code)
-        .then(a.jt.cmp(&b.jt).then(a.jf.cmp(&b.jf)))
-}
-
-/// Whether two instructions differ at most in their constants.
-#[inline(always)]
-fn is_alike(a: Insn, b: Insn) -> bool
-    ensures same { IsTrue result → shape_cmp a b ≡ Equal }
-    ensures other { IsFalse result → shape_cmp a b ≡ Equal → ⊥ }
-{
-    a.code == b.code && a.jt == b.jt && a.jf == b.jf
-}
-
-/// How two programs are ordered: by the first instructions that differ in more than the constant, then by length, then by the
-/// first constants that differ.
+/// How two programs are ordered: by the first instructions that differ in more than programs of one shape do, then by length, then by
+/// the first constants that differ.
 fn program_order(a: &[Insn], b: &[Insn]) -> Ordering
     ensures { result ≡ program_cmp a.now b.now }
 {

@@ -1,0 +1,66 @@
+//! What programs of one shape have alike.
+
+ghost use Rattle.std.specs.Prelude.{◌≡◌, IsTrue, IsFalse};
+ghost use Rattle.std.specs.declared.cmp.Ordering.TheVariants.{Equal};
+ghost use Rattle.filter_group.specs.Order.{constant_alike, shape_cmp, shape_constant};
+ghost use Rattle.filter_group.specs.Together.{AreOneShape};
+
+use bpf_insn::{Form, Insn};
+use filter_verify::Verified;
+use std::cmp::Ordering;
+
+/// The constant of an instruction of this form, as far as programs of one shape have it alike. What a jump compares with may differ,
+/// and so may a verdict above 0. So where they stand at one point they load the same, and where one returns 0 all do.
+fn alike_in(form: Option<Form>, constant: u32) -> u32
+    ensures { result ≡ constant_alike form constant }
+{
+    match form {
+        Some(Form::JmpK { .. }) => 0,
+        Some(Form::RetK { k }) => k.min(1),
+        _ => constant,
+    }
+}
+
+/// The constant of an instruction, as far as programs of one shape have it alike.
+fn constant_of(insn: Insn) -> u32
+    ensures { result ≡ shape_constant insn }
+{
+    alike_in(insn.form(), insn.k)
+}
+
+/// How two instructions are ordered, but for the constants that may differ in programs of one shape.
+pub(crate) fn shape_order(a: Insn, b: Insn) -> Ordering
+    ensures { result ≡ shape_cmp a b }
+{
+    a.code.cmp(&b.code).then(
+        a.jt.cmp(&b.jt)
+            .then(a.jf.cmp(&b.jf).then(constant_of(a).cmp(&constant_of(b)))),
+    )
+}
+
+/// Whether two instructions differ at most in what may differ in programs of one shape.
+pub(crate) fn is_alike(a: Insn, b: Insn) -> bool
+    ensures same { IsTrue result → shape_cmp a b ≡ Equal }
+    ensures other { IsFalse result → shape_cmp a b ≡ Equal → ⊥ }
+    ensures fields { IsTrue result → (a.code ≡ b.code) × (a.jt ≡ b.jt) × (a.jf ≡ b.jf) }
+{
+    a.code == b.code && a.jt == b.jt && a.jf == b.jf && constant_of(a) == constant_of(b)
+}
+
+/// Whether two programs are of one shape: they load the same and end with verdict 0 at the same places, and differ at most in what they
+/// compare with and in their verdicts.
+pub(crate) fn are_one_shape(a: &Verified, b: &Verified) -> bool
+    ensures { IsTrue result → AreOneShape a.now b.now }
+{
+    let code = a.code();
+    let other = b.code();
+    if code.len() != other.len() {
+        return false;
+    }
+    for place in 0..code.len() {
+        if !is_alike(code[place], other[place]) {
+            return false;
+        }
+    }
+    true
+}
