@@ -93,6 +93,7 @@ pub(crate) fn take<L: Links>(
 }
 
 // Makes ready what core 0 sends of a message once it has taken it. The links that it goes over take messages.
+#[inline(never)]
 fn ready_take<L: Links>(
     core: &Core0,
     links: &L,
@@ -179,7 +180,8 @@ pub(crate) fn start<L: Links>(
     Ok(())
 }
 
-// Makes ready what a start sends.
+// Makes ready what a start sends. Not in line, so that its room on the stack isn't there while the request is staged.
+#[inline(never)]
 fn ready_start(
     core: &Core0,
     alloc: Global,
@@ -251,6 +253,7 @@ pub(crate) fn start_for<L: Links>(
 }
 
 // Makes ready what a start for a core sends.
+#[inline(never)]
 fn ready_start_for(
     core: &Core0,
     alloc: Global,

@@ -162,6 +162,8 @@ fn send_reply<L: Links>(links: &mut L, stamp: u64, reply: &Option<Message>)
     }
 }
 
+// Not in line, so that its room on the stack isn't there while an operation is staged.
+#[inline(never)]
 fn send_answer<L: Links>(links: &mut L, stamp: u64, answer: &Message)
     requires answer { IsShortAnswer answer.now }
     requires ready { (L.view links.old 0).ready ≡ true }

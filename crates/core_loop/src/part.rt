@@ -124,7 +124,8 @@ impl BoxedPart {
     }
 
     /// This part.
-    #[inline(never)]
+    // In line, so that the part isn't copied on the stack once more.
+    #[inline(always)]
     fn of(alloc: Global, part: Part) -> Result<BoxedPart, AllocError>
         ensures { IfOk result (λ boxed. boxed ≡ part) }
     {

@@ -176,7 +176,7 @@ impl Members {
         let mut homes = Vec::with_capacity(alloc, self.homes.len() + 1)?;
         homes.extend_from_slice(&self.homes)?;
         homes.insert(place, home)?;
-        Ok(made(homes, chunks)?)
+        made(homes, chunks)
     }
 
     /// The programs but the one at a place.
@@ -192,6 +192,8 @@ impl Members {
 }
 
 /// The programs that lie there.
+// Not in line, so that its room on the stack isn't there while chunks are made.
+#[inline(never)]
 fn made(homes: Vec<Home>, chunks: Vec<Chunk>) -> Result<Members, AllocError>
     requires { AreHomes homes.items chunks.items }
     ensures { IfOk result (λ members. members ≡ map (program_in chunks.items) homes.items) }

@@ -24,6 +24,8 @@ pub struct Replica {
 
 // By hand, so that the proofs of its owners have one call and not a drop of each part.
 impl Drop for Replica {
+    // In line, so that the replica is not copied to be dropped.
+    #[inline(always)]
     fn drop(self) {
         let Replica {
             budget: _,
