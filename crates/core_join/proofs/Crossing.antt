@@ -15,14 +15,12 @@ use Rattle.installed_filters.proofs.receiving.Workspace.TheSendSync as workspace
 use Rattle.table_replica.proofs.boxed.BoxedFilters.TheSendSync as boxed
 use Rattle.table_replica.proofs.shares.Shares.TheSendSync as shares
 use Rattle.table_replica.proofs.Op.TheSendSync as op
-use Rattle.table_replica.proofs.Room.TheSendSync as room
 use Rattle.table_replica.specs.contracts.contents.Contents as contents
 use Rattle.table_replica.specs.contracts.plan.Plan as plan
 use Rattle.table_replica.specs.contracts.replica.Replica as replica
 use Rattle.monitor_2pc.proofs.coordinator.Coordinator.TheSendSync as coordinator
 use Rattle.monitor_2pc.proofs.participant.Participant.TheSendSync as participant
 use Rattle.core_steps.specs.contracts.core0.Core0 as core0
-use Rattle.core_steps.proofs.spare.Spare.TheSendSync as spare
 use Rattle.core_steps.specs.contracts.other_core.OtherCore as other_core
 use Rattle.core_links.proofs.ring_links.RingLinks.TheSendSync as ring_links
 use Rattle.core_links.specs.contracts.ring_links.RingLinks as links
@@ -55,7 +53,7 @@ core0_field_send : IsSend core0.the_field.row
 core0_field_send = search (sendable, replica_send, coordinator.the_send) depth 14
 
 other_core_field_send : IsSend other_core.the_field.row
-other_core_field_send = search (sendable, replica_send, participant.the_send, room.the_send, spare.the_send) depth 14
+other_core_field_send = search (sendable, replica_send, participant.the_send) depth 14
 
 part_send : IsSend part.the_field.row
 part_send = enum_send (enums.shape part.the_type) ((core0_field_send, tt), ((other_core_field_send, tt), tt))

@@ -13,8 +13,8 @@ use Rattle.monitor_2pc.specs.Participants.{Fits}
 use Rattle.world_histories.specs.Histories.{Stamping}
 use Rattle.core_links.specs.Views.{LinkView, first_of}
 use Rattle.core_steps.specs.declared.other_core.OtherCore.{OtherCore}
-use Rattle.core_steps.specs.declared.spare.Ballot.{Ballot}
-use Rattle.core_steps.specs.declared.spare.Unread.TheVariants.{Stranger}
+use Rattle.core_steps.specs.declared.unread.Ballot.{Ballot}
+use Rattle.core_steps.specs.declared.unread.Unread.TheVariants.{Stranger}
 use Rattle.core_steps.specs.OtherCoreSteps.{AwaitsHere, Considers, other_place}
 use Rattle.core_steps.specs.Unread.{CannotVote}
 use Rattle.core_loop.specs.declared.part.Part.{Part}

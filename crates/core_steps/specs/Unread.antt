@@ -10,9 +10,9 @@ use Rattle.monitor_messages.specs.declared.loaded.Carrier.{Carrier}
 use Rattle.monitor_messages.specs.Carrying.{loaded_message}
 use Rattle.monitor_messages.specs.Coding.{Coded}
 use Rattle.monitor_2pc.specs.Participants.{ParticipantPlace, Casts, Fits, staged_by}
-use Rattle.core_steps.specs.declared.spare.Ballot.{Ballot}
-use Rattle.core_steps.specs.declared.spare.Unread.{Unread}
-use Rattle.core_steps.specs.declared.spare.Unread.TheVariants.{BadMessage, Stranger}
+use Rattle.core_steps.specs.declared.unread.Ballot.{Ballot}
+use Rattle.core_steps.specs.declared.unread.Unread.{Unread}
+use Rattle.core_steps.specs.declared.unread.Unread.TheVariants.{BadMessage, Stranger}
 
 -- the bytes are those of the Prepare that comes next, and a core with this place, table and budget may cast the vote and stages nothing
 pub record IsBallot (place : ParticipantPlace) (s : TableState) (budget : ℕ) (bytes : List ℕ) (ballot : Ballot) : Type 0 where

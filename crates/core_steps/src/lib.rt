@@ -10,11 +10,11 @@ mod core0;
 mod other_core;
 mod outgoing;
 mod receiving;
-mod spare;
+mod unread;
 
 pub use core0::{Core0, Told};
 pub use monitor_2pc::Stranger;
 pub use other_core::OtherCore;
 pub use outgoing::Outgoing;
 pub use receiving::receive;
-pub use spare::{Ballot, Spare, Unread};
+pub use unread::{Ballot, Unread};

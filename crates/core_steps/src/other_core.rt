@@ -13,21 +13,17 @@ ghost use Rattle.core_steps.specs.declared.other_core.OtherCore.{OtherCore as Gh
 ghost use Rattle.core_steps.specs.OtherCoreSteps.{IsBetweenSteps, AwaitsHere, Considers, TakesDown, other_place};
 ghost use Rattle.core_steps.specs.Unread.{CannotVote};
 
-use crate::spare::{Ballot, Spare, Unread};
+use crate::unread::{Ballot, Unread, unread_ballot};
 use filter_table::Limits;
-use filter_verify::Room;
 use monitor_2pc::{Decision, Message, Participant, Stranger, Vote};
 use std::alloc::{AllocError, Global};
 use table_replica::Replica;
 use world_events::Answer;
 
-/// A core other than core 0: its replica of the table, its part of the protocol, and the memory with which it votes where no
-/// other is left.
+/// A core other than core 0: its replica of the table, and its part of the protocol.
 pub struct OtherCore {
     pub replica: Replica,
     pub participant: Participant,
-    pub room: Room,
-    pub spare: Spare,
 }
 
 // By hand, so that the proofs of its owners have one call and not a drop of each part.
@@ -36,29 +32,22 @@ impl Drop for OtherCore {
         let OtherCore {
             replica: _,
             participant: _,
-            room: _,
-            spare: _,
         } = self;
     }
 }
 
 impl OtherCore {
-    /// A core that has done nothing yet. It takes the memory for the longest program and for the verifier.
+    /// A core that has done nothing yet. It takes memory for its replica alone.
     #[inline(never)]
     pub fn new(alloc: Global, limits: Limits, budget: u32) -> Result<OtherCore, AllocError>
         ensures replica { IfOk result (λ core. core.replica ≡ record { budget = budget; shown = empty_table limits; staged = None }) }
         ensures participant { IfOk result (λ core. core.participant ≡ record { last = 0; voted = None; outstanding = false }) }
         ensures between { IfOk result IsBetweenSteps }
     {
-        let room = Room::new(alloc)?;
-        let spare = Spare::new(alloc)?;
-        // The replica comes last, so that no error path has it to give up: that takes much of the stack.
         let replica = Replica::with_limits(alloc, limits, budget)?;
         Ok(OtherCore {
             replica,
             participant: Participant::new(0),
-            room,
-            spare,
         })
     }
 
@@ -90,7 +79,7 @@ impl OtherCore {
             Message::Prepare { txn, op } => {
                 let vote = self
                     .participant
-                    .ballot(alloc, &mut self.room, &mut self.replica, *txn, op, short)?;
+                    .ballot(alloc, &mut self.replica, *txn, op, short)?;
                 Ok(Some(Message::Vote { txn: *txn, vote }))
             }
             Message::Commit { txn } if self.participant.can_commit(*txn) => {
@@ -114,8 +103,7 @@ impl OtherCore {
         ensures unread { IfErr result (CannotVote (other_place self.old) self.old.replica.shown self.old.replica.budget bytes.now) }
         ensures same { self.new ≡ self.old }
     {
-        self.spare
-            .ballot(&mut self.room, &self.participant, &self.replica, bytes)
+        unread_ballot(&self.participant, &self.replica, bytes)
     }
 
     /// Takes a Prepare that was considered, with this vote. Takes no memory.

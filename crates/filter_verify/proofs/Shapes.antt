@@ -1,14 +1,21 @@
 -- What a program keeps whose instructions break no rule.
-use Rattle.std.proofs.Common.{◌≡◌, ℕ, ◌+◌, ◌-◌, ◌<◌, ◌⊎◌, List, length, None, inl, inr, arith, refl, subst, sym}
+use Rattle.std.proofs.Common.{◌≡◌, ◌∙◌, ℕ, ◌+◌, ◌-◌, ◌<◌, ◌⊎◌, List, length, Option, Some, None, ap, inl, inr, arith, refl, subst, sym}
+use Rattle.std.specs.Prelude.{option_and_then, slice_get}
 use Rattle.std.proofs.lemmas.Bool.{cases_lt}
 use Rattle.bpf_insn.specs.declared.insn.Insn.{Insn}
 use Rattle.bpf_insn.specs.declared.form.Form.{Form}
+use Rattle.bpf_insn.specs.Table.{form_of}
 use Rattle.bpf_insn.specs.declared.form.Form.TheVariants.{Ja, JmpK, JmpX, RetK, RetA}
 use Rattle.bpf_insn.specs.Program.{form_at, FormAt, JumpsTo, LeadsTo}
 use Rattle.bpf_insn.proofs.Places.{FormAt-same, FormAt-inside}
 use Rattle.filter_verify.specs.declared.rules.Refusal.TheVariants.{BadCode, BadWord, JumpOut}
 use Rattle.filter_verify.specs.Paths.{LoadsWord, StoresWord}
 use Rattle.filter_verify.specs.Rules.{IsWellShaped, IsReturn}
+
+-- what the form of the instruction at a place was found to be
+pub form_at_got : (program : List Insn) (pc : ℕ) (insn : Insn) (found : Option Form) → slice_get program pc ≡ Some insn → found ≡ form_of insn → form_at program pc ≡ found
+unfolding form_at
+form_at_got program pc insn found got e = ap (λ o. option_and_then form_of o) got ∙ sym e
 
 -- control goes on by a jump, or to the next place after no return
 leads_on : (pc : ℕ) (form : Form) (to : ℕ) → LeadsTo pc form to → JumpsTo pc form to ⊎ ((to ≡ pc + 1) × (IsReturn form → ⊥))

@@ -10,10 +10,10 @@ use Rattle.bpf_insn.specs.Program.{FormAt, JumpsTo}
 use Rattle.bpf_insn.proofs.Places.{FormAt-inside, FormAt-same}
 use Rattle.filter_verify.specs.declared.rules.Refusal.{Refusal}
 use Rattle.filter_verify.specs.declared.rules.Refusal.TheVariants.{Empty, TooLong, BadCode, ZeroDivisor, BadShift, BadWord, JumpOut, Ancillary, NoReturn, Unwritten, NoMemory}
-use Rattle.filter_verify.specs.Paths.{Successor, LoadsWord, StoresWord, IsStoredOn, Path, IsUnwritten, LoadsOnlyWritten}
+use Rattle.filter_verify.specs.Paths.{LoadsWord, StoresWord, IsStoredOn, Path, IsUnwritten, LoadsOnlyWritten}
 use Rattle.filter_verify.specs.Rules.{BreaksAt, EndsInReturn, IsFine, IsFirst, IsReturn, IsSized, IsWellShaped, Refuses, IsDecided}
-use Rattle.filter_verify.proofs.Forward.{Successor-later}
-use Rattle.filter_verify.proofs.Walks.{Path-more, Path-less, IsStoredOn-more, IsStoredOn-before, IsStoredOn-last, last_of}
+use Rattle.filter_verify.specs.Opens.{IsOpen}
+use Rattle.filter_verify.proofs.Opens.{OpenBy, open_by, by_open, first_open, open_loads}
 use Rattle.filter_verify.proofs.Deciding.{Decided, first_below, form_or_none, leads_or_not, loads_or_not, stores_or_not}
 
 -- The rules on single instructions
@@ -180,48 +180,18 @@ module _ (program : List Insn) where
 
   -- The words
 
-  -- a path leads to a place with a word unwritten
-  abbrev Open : ℕ → ℕ → Type 0
-  Open word pc = (earlier : List ℕ) × Path program (earlier ++ pc ∷ []) × (IsStoredOn program word earlier → ⊥)
-
-  -- it comes by the place before
-  abbrev OpenBy : ℕ → ℕ → ℕ → Type 0
-  OpenBy word pc q = Open word q × Successor program q pc × (StoresWord program q word → ⊥)
-
-  open_by : (word pc q : ℕ) → OpenBy word pc q → Open word pc
-  open_by word pc q by = (
-    by.0.0 ++ q ∷ [],
-    Path-more program by.0.0 q pc by.0.1 by.1,
-    λ stored. elim (IsStoredOn-more program word by.0.0 q stored) [ inl before ↦ by.0.2 before | inr here ↦ by.2 here ],
-  )
-
-  by_open : (word pc : ℕ) (earlier : List ℕ) → (pc ≡ 0 → ⊥) → Path program (earlier ++ pc ∷ []) → (IsStoredOn program word earlier → ⊥) → (q : ℕ) × (q < pc) × OpenBy word pc q
-  by_open word pc [] later path unstored = absurd (later path.0)
-  by_open word pc (first ∷ more) later path unstored =
-      let end = last_of first more in
-      let whole = subst (λ (places : List ℕ). Path program (places ++ pc ∷ [])) end.2 path in
-      let parts = Path-less program end.0 end.1 pc whole in (
-        end.1,
-        Successor-later program end.1 pc parts.1,
-        (
-          (end.0, parts.0, λ stored. unstored (subst (IsStoredOn program word) (sym end.2) (IsStoredOn-before program word end.0 end.1 stored))),
-          parts.1,
-          λ here. unstored (subst (IsStoredOn program word) (sym end.2) (IsStoredOn-last program word end.0 end.1 here)),
-        ),
-      )
-
-  -- whether there is such a path, by the places before
-  open_below : (word n pc : ℕ) → pc < n → Decided (Open word pc)
+  -- whether a path leads to a place with a word unwritten, by the places before
+  open_below : (word n pc : ℕ) → pc < n → Decided (IsOpen program word pc)
   open_below word zero pc below = absurd (omega arith)
   open_below word (suc n) pc below = elim (cases_eq pc 0) [
-    | inl start ↦ inl ([], (start, tt), λ h. h)
-    | inr later ↦ elim (first_below (OpenBy word pc) pc (λ q before. by_or_not q (open_below word n q (omega arith)))) [
-      | inl found ↦ inl (open_by word pc found.0 found.2)
-      | inr none ↦ inr (λ is. let by = by_open word pc is.0 later is.1 is.2 in none by.0 by.1 by.2)
+    | inl start ↦ inl (subst (IsOpen program word) (sym start) (first_open program word))
+    | inr later ↦ elim (first_below (OpenBy program word pc) pc (λ q before. by_or_not q (open_below word n q (omega arith)))) [
+      | inl found ↦ inl (open_by program word pc found.0 found.2)
+      | inr none ↦ inr (λ is. let by = by_open program word pc is.0 later is.1 is.2 in none by.0 by.1 by.2)
     ]
   ]
     where
-      by_or_not : (q : ℕ) → Decided (Open word q) → Decided (OpenBy word pc q)
+      by_or_not : (q : ℕ) → Decided (IsOpen program word q) → Decided (OpenBy program word pc q)
       by_or_not q (inr closed) = inr (λ by. closed by.0)
       by_or_not q (inl is) = elim (leads_or_not program q pc) [
         | inr other ↦ inr (λ by. other by.1)
@@ -236,7 +206,7 @@ module _ (program : List Insn) where
   unwritten_or_not pc = elim (loads_or_not program pc) [
     | inr none ↦ inr (λ has. none has.0 has.2.loads)
     | inl loads ↦ elim (open_below (loads.0) (pc + 1) pc (omega arith)) [
-      | inl is ↦ inl (loads.0, is.0 ++ pc ∷ [], record { earlier = is.0; ends = refl; is_path = is.1; loads = loads.1; unwritten = is.2 })
+      | inl is ↦ let load = open_loads program pc loads.0 loads.1 is in inl (loads.0, load.0, load.1)
       | inr closed ↦ inr (λ has.
           let same : has.0 ≡ loads.0 = loads.2 has.0 has.2.loads in
           closed (has.2.earlier, subst (Path program) has.2.ends has.2.is_path, subst (λ word. IsStoredOn program word has.2.earlier → ⊥) same has.2.unwritten))
@@ -251,7 +221,7 @@ module _ (program : List Insn) where
   ]
 
   -- where no load is of an unwritten word, each path that ends at a load has written its word
-  all_written : ((pc : ℕ) → pc < length program → HasUnwritten pc → ⊥) → LoadsOnlyWritten program
+  pub all_written : ((pc : ℕ) → pc < length program → HasUnwritten pc → ⊥) → LoadsOnlyWritten program
   all_written none earlier pc word path loads = elim (stored_or_not word earlier) [
     | inl stored ↦ stored
     | inr open_path ↦

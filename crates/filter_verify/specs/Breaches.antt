@@ -1,7 +1,7 @@
 -- What is told of a program that is refused where no path is given.
 use Rattle.std.specs.Prelude.{◌≡◌, List}
 use Rattle.bpf_insn.specs.declared.insn.Insn.{Insn}
-use Rattle.filter_verify.specs.declared.room.Breach.{Breach}
+use Rattle.filter_verify.specs.declared.breach.Breach.{Breach}
 use Rattle.filter_verify.specs.declared.rules.Refusal.{Refusal}
 use Rattle.filter_verify.specs.Numbers.{number_of, place_of}
 use Rattle.filter_verify.specs.Rules.{Refuses}

@@ -1,7 +1,7 @@
 //! Which scratch words are written before each instruction, over all paths.
 
 ghost use Rattle.std.specs.Prelude.{◌≡◌, ℕ, ◌+◌, ◌<◌, ◌≤◌, ◌↔◌, Some, length, IsTrue, OnOk, IfOk, IfErr, IfSome, IfNone};
-ghost use Rattle.bpf_insn.specs.Program.{FormAt, LeadsTo};
+ghost use Rattle.bpf_insn.specs.Program.{LeadsTo};
 ghost use Rattle.bpf_insn.specs.declared.insn.TheConstants.{MAX_INSNS};
 ghost use Rattle.filter_verify.specs.Exits.{StoresForm};
 ghost use Rattle.filter_verify.specs.Kept.{IsKept};
@@ -13,6 +13,7 @@ ghost use Rattle.filter_verify.specs.Words.{LacksWord};
 use crate::flow::{Exit, exit_of, loaded_word, stored_word, stores};
 use crate::path::Places;
 use crate::rules::Refusal;
+use crate::shape::form_there;
 use crate::words::Words;
 use bpf_insn::{Form, Insn};
 use std::alloc::{AllocError, Global};
@@ -121,15 +122,6 @@ fn path_to(
     }
     path.reverse();
     Ok(Places::from_vec(path))
-}
-
-/// The form at a place of a program whose instructions break no rule.
-fn form_there(code: &[Insn], pc: usize) -> Form
-    requires shaped { IsWellShaped code.now }
-    requires inside { pc < length code.now }
-    ensures { FormAt code.now pc result }
-{
-    code[pc].form().unwrap()
 }
 
 /// Goes over the instruction at a place, or gives the word that it loads and a path may leave unwritten.

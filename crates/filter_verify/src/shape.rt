@@ -4,22 +4,23 @@ ghost use Rattle.std.specs.Prelude.{ℕ, ◌<◌, ◌≤◌, length, IfErr, OnOk
 ghost use Rattle.bpf_insn.specs.Program.{FormAt};
 ghost use Rattle.filter_verify.specs.Rules.{BreaksAt, EndsInReturn, IsFine, IsReturn, IsWellShaped, Refuses};
 
+use crate::code::Code;
 use crate::rules::Refusal;
-use bpf_insn::{AluOp, Form, Insn, MAX_INSNS, jumps_out};
+use bpf_insn::{AluOp, Form, MAX_INSNS, jumps_out};
 
 /// How many scratch words there are.
-const WORDS: u32 = 16;
+pub const WORDS: u32 = 16;
 
 /// The first place of an absolute load that stands for ancillary data.
 const ANCILLARY: u32 = 0x8000_0000;
 
 /// Refuses an instruction of that form at a place, if it breaks a rule.
-fn check_form(code: &[Insn], pc: usize, form: Form) -> Result<(), Refusal>
-    requires inside { pc < length code.now }
-    requires limited { length code.now ≤ MAX_INSNS }
-    requires form { FormAt code.now pc form }
-    ensures ok { OnOk result (IsFine code.now pc) }
-    ensures err { IfErr result (λ refusal. BreaksAt code.now pc refusal) }
+fn check_form<C: Code>(code: C, pc: usize, form: Form) -> Result<(), Refusal>
+    requires inside { pc < length (C.insns code) }
+    requires limited { length (C.insns code) ≤ MAX_INSNS }
+    requires form { FormAt (C.insns code) pc form }
+    ensures ok { OnOk result (IsFine (C.insns code) pc) }
+    ensures err { IfErr result (λ refusal. BreaksAt (C.insns code) pc refusal) }
 {
     let at = pc as u32;
     match form {
@@ -35,19 +36,19 @@ fn check_form(code: &[Insn], pc: usize, form: Form) -> Result<(), Refusal>
             Err(Refusal::BadWord(at))
         }
         Form::LdAbs { k, .. } if k >= ANCILLARY => Err(Refusal::Ancillary(at)),
-        _ if jumps_out(form, pc, code.len()) => Err(Refusal::JumpOut(at)),
+        _ if jumps_out(form, pc, code.count()) => Err(Refusal::JumpOut(at)),
         _ => Ok(()),
     }
 }
 
 /// Refuses the instruction at a place, if it breaks a rule.
-fn check_insn(code: &[Insn], pc: usize) -> Result<(), Refusal>
-    requires inside { pc < length code.now }
-    requires limited { length code.now ≤ MAX_INSNS }
-    ensures ok { OnOk result (IsFine code.now pc) }
-    ensures err { IfErr result (λ refusal. BreaksAt code.now pc refusal) }
+fn check_insn<C: Code>(code: C, pc: usize) -> Result<(), Refusal>
+    requires inside { pc < length (C.insns code) }
+    requires limited { length (C.insns code) ≤ MAX_INSNS }
+    ensures ok { OnOk result (IsFine (C.insns code) pc) }
+    ensures err { IfErr result (λ refusal. BreaksAt (C.insns code) pc refusal) }
 {
-    match code[pc].form() {
+    match code.insn(pc).form() {
         Some(form) => check_form(code, pc, form),
         None => Err(Refusal::BadCode(pc as u32)),
     }
@@ -62,29 +63,29 @@ fn is_return(form: Form) -> bool
 }
 
 /// Whether the last instruction is a return.
-fn ends_in_return(code: &[Insn]) -> bool
-    requires { 0 < length code.now }
-    ensures ends { IsTrue result → EndsInReturn code.now }
-    ensures no { (IsTrue result → ⊥) → EndsInReturn code.now → ⊥ }
+fn ends_in_return<C: Code>(code: C) -> bool
+    requires { 0 < length (C.insns code) }
+    ensures ends { IsTrue result → EndsInReturn (C.insns code) }
+    ensures no { (IsTrue result → ⊥) → EndsInReturn (C.insns code) → ⊥ }
 {
-    match code[code.len() - 1].form() {
+    match code.insn(code.count() - 1).form() {
         Some(form) => is_return(form),
         None => false,
     }
 }
 
 /// Refuses a program that breaks a rule on its size, its instructions in order, or its end.
-pub fn check_shape(code: &[Insn]) -> Result<(), Refusal>
-    ensures ok { OnOk result (IsWellShaped code.now) }
-    ensures err { IfErr result (λ refusal. Refuses code.now refusal) }
+pub fn check_shape<C: Code>(code: C) -> Result<(), Refusal>
+    ensures ok { OnOk result (IsWellShaped (C.insns code)) }
+    ensures err { IfErr result (λ refusal. Refuses (C.insns code) refusal) }
 {
-    if code.is_empty() {
+    if code.count() == 0 {
         return Err(Refusal::Empty);
     }
-    if code.len() > MAX_INSNS {
+    if code.count() > MAX_INSNS {
         return Err(Refusal::TooLong);
     }
-    'places: for pc in 0..code.len() {
+    'places: for pc in 0..code.count() {
         check_insn(code, pc)?;
     }
     if ends_in_return(code) {
@@ -92,4 +93,13 @@ pub fn check_shape(code: &[Insn]) -> Result<(), Refusal>
     } else {
         Err(Refusal::NoReturn)
     }
+}
+
+/// The form at a place of a program whose instructions break no rule.
+pub fn form_there<C: Code>(code: C, pc: usize) -> Form
+    requires shaped { IsWellShaped (C.insns code) }
+    requires inside { pc < length (C.insns code) }
+    ensures { FormAt (C.insns code) pc result }
+{
+    code.insn(pc).form().unwrap()
 }

@@ -15,7 +15,7 @@ use filter_table::{Decision, Load, Op, StageFault, Vote};
 use monitor_messages::Message;
 use std::alloc::Global;
 use std::marker::Model;
-use table_replica::{Insn, Replica, Room};
+use table_replica::{Code, Replica};
 
 /// A core other than core 0 in the protocol: its last number, its vote while it awaits the outcome, and whether it has a
 /// request outstanding.
@@ -114,12 +114,11 @@ impl Participant {
     }
 
     /// Takes a message of core 0 and gives the vote or the acknowledgement to send back; where `short` is true, the core acts
-    /// as if it had no memory for an operation. A program that memory is refused to is verified in the room. A stranger changes
+    /// as if it had no memory for an operation. A program that memory is refused to is verified all the same. A stranger changes
     /// nothing. Takes no memory on Commit or Abort.
     pub fn answer(
         &mut self,
         alloc: Global,
-        room: &mut Room,
         replica: &mut Replica,
         message: &Message,
         short: bool,
@@ -135,7 +134,7 @@ impl Participant {
         ensures same_replica { OnErr result (replica.new ≡ replica.old) }
     {
         match message {
-            Message::Prepare { txn, op } => self.prepare(alloc, room, replica, *txn, op, short),
+            Message::Prepare { txn, op } => self.prepare(alloc, replica, *txn, op, short),
             Message::Commit { txn } => self.commit(replica, *txn),
             Message::Abort { txn } => self.abort(replica, *txn),
             Message::Vote { .. }
@@ -148,7 +147,6 @@ impl Participant {
     fn prepare(
         &mut self,
         alloc: Global,
-        room: &mut Room,
         replica: &mut Replica,
         txn: u64,
         op: &Op,
@@ -164,18 +162,17 @@ impl Participant {
         ensures same_place { OnErr result (self.new ≡ self.old) }
         ensures same_staged { OnErr result (replica.new.staged ≡ replica.old.staged) }
     {
-        let vote = self.ballot(alloc, room, replica, txn, op, short)?;
+        let vote = self.ballot(alloc, replica, txn, op, short)?;
         self.cast(txn, vote);
         Ok(Message::Vote { txn, vote })
     }
 
     /// How this core votes on an operation that core 0 asks about, which stays staged where that is Yes. The vote is cast by
-    /// `vote`, or the replica's `abort` takes it back. A program that memory is refused to is verified in the room. A stranger
+    /// `vote`, or the replica's `abort` takes it back. A program that memory is refused to is verified all the same. A stranger
     /// changes nothing.
     pub fn ballot(
         &self,
         alloc: Global,
-        room: &mut Room,
         replica: &mut Replica,
         txn: u64,
         op: &Op,
@@ -193,29 +190,28 @@ impl Participant {
         if !self.can_vote(txn) {
             return Err(Stranger);
         }
-        staged_vote(alloc, room, replica, op, short)
+        staged_vote(alloc, replica, op, short)
     }
 
     /// How this core votes on an operation that core 0 asks about, where its program lies elsewhere and no memory is left for
     /// it: NoMemory, or Budget. The vote is cast by `vote`. Nothing is staged, and no memory is taken.
-    pub fn ballot_without_memory(
+    pub fn ballot_without_memory<C: Code>(
         &self,
-        room: &mut Room,
         replica: &Replica,
         txn: u64,
         load: Load,
-        program: &[Insn],
+        program: C,
     ) -> Result<Vote, Stranger>
         requires { StagedByVote self.now.voted replica.now.staged }
         ensures fits { OnOk result ((self.now.voted ≡ None) × (txn ≡ self.now.last + 1)) }
-        ensures casts { (short : Bool) → IfOk result (Casts short replica.now.shown replica.now.budget (load_op load program.now)) }
-        ensures staged { IfOk result (λ vote. replica.now.staged ≡ staged_by vote (load_op load program.now)) }
-        ensures stranger { OnErr result (Fits replica.now.shown replica.now.budget (place_of self.now replica.now.staged) (Prepare txn (load_op load program.now)) → ⊥) }
+        ensures casts { (short : Bool) → IfOk result (Casts short replica.now.shown replica.now.budget (load_op load (C.insns program))) }
+        ensures staged { IfOk result (λ vote. replica.now.staged ≡ staged_by vote (load_op load (C.insns program))) }
+        ensures stranger { OnErr result (Fits replica.now.shown replica.now.budget (place_of self.now replica.now.staged) (Prepare txn (load_op load (C.insns program))) → ⊥) }
     {
         if !self.can_vote(txn) {
             return Err(Stranger);
         }
-        loaded_vote(room, replica, load, program)
+        loaded_vote(replica, load, program)
     }
 
     /// Whether it can vote on an operation with this number.
@@ -279,13 +275,7 @@ impl Participant {
 }
 
 /// The vote on an operation, which stays staged where it is Yes. A rule that refuses it makes it a stranger.
-fn staged_vote(
-    alloc: Global,
-    room: &mut Room,
-    replica: &mut Replica,
-    op: &Op,
-    short: bool,
-) -> Result<Vote, Stranger>
+fn staged_vote(alloc: Global, replica: &mut Replica, op: &Op, short: bool) -> Result<Vote, Stranger>
     requires { replica.old.staged ≡ None }
     ensures casts { IfOk result (Casts short replica.old.shown replica.old.budget op.now) }
     ensures staged { IfOk result (λ vote. replica.new.staged ≡ staged_by vote op.now) }
@@ -295,23 +285,23 @@ fn staged_vote(
     ensures budget { replica.new.budget ≡ replica.old.budget }
 {
     if short {
-        return unstaged_vote(room, replica, op);
+        return unstaged_vote(replica, op);
     }
     match replica.stage(alloc, op) {
         Ok(()) => Ok(Vote::Yes),
-        Err(_) => unstaged_vote(room, replica, op),
+        Err(_) => unstaged_vote(replica, op),
     }
 }
 
 /// The vote on an operation that isn't staged.
 #[tactic(auto, using(filter_table::proofs::Tables::over_budget))]
-fn unstaged_vote(room: &mut Room, replica: &Replica, op: &Op) -> Result<Vote, Stranger>
+fn unstaged_vote(replica: &Replica, op: &Op) -> Result<Vote, Stranger>
     requires { replica.now.staged ≡ None }
     ensures casts { (short : Bool) → IfOk result (Casts short replica.now.shown replica.now.budget op.now) }
     ensures staged { IfOk result (λ vote. replica.now.staged ≡ staged_by vote op.now) }
     ensures refused { OnErr result ((fault : GhostFault) × Allowed replica.now.shown replica.now.budget op.now (Some (Rule fault))) }
 {
-    match replica.check(room, op) {
+    match replica.check(op) {
         Ok(()) => Ok(Vote::NoMemory),
         Err(StageFault::Rule(_)) => Err(Stranger),
         Err(StageFault::Budget) => Ok(Vote::Budget),
@@ -321,18 +311,13 @@ fn unstaged_vote(room: &mut Room, replica: &Replica, op: &Op) -> Result<Vote, St
 
 /// The same where the program lies elsewhere.
 #[tactic(auto, using(filter_table::proofs::Tables::over_budget))]
-fn loaded_vote(
-    room: &mut Room,
-    replica: &Replica,
-    load: Load,
-    program: &[Insn],
-) -> Result<Vote, Stranger>
+fn loaded_vote<C: Code>(replica: &Replica, load: Load, program: C) -> Result<Vote, Stranger>
     requires { replica.now.staged ≡ None }
-    ensures casts { (short : Bool) → IfOk result (Casts short replica.now.shown replica.now.budget (load_op load program.now)) }
-    ensures staged { IfOk result (λ vote. replica.now.staged ≡ staged_by vote (load_op load program.now)) }
-    ensures refused { OnErr result ((fault : GhostFault) × Allowed replica.now.shown replica.now.budget (load_op load program.now) (Some (Rule fault))) }
+    ensures casts { (short : Bool) → IfOk result (Casts short replica.now.shown replica.now.budget (load_op load (C.insns program))) }
+    ensures staged { IfOk result (λ vote. replica.now.staged ≡ staged_by vote (load_op load (C.insns program))) }
+    ensures refused { OnErr result ((fault : GhostFault) × Allowed replica.now.shown replica.now.budget (load_op load (C.insns program)) (Some (Rule fault))) }
 {
-    match replica.check_load(room, load, program) {
+    match replica.check_load(load, program) {
         Ok(()) => Ok(Vote::NoMemory),
         Err(StageFault::Rule(_)) => Err(Stranger),
         Err(StageFault::Budget) => Ok(Vote::Budget),

@@ -6,3 +6,4 @@ pub mod Operations
 pub mod Decisions
 pub mod Messages
 pub mod Lengths
+pub mod CodedPrograms

@@ -1,3 +1,4 @@
 pub mod Coding
 pub mod Carrying
 pub mod Reading
+pub mod Programs

@@ -42,8 +42,8 @@ mod writing;
 
 pub use fault::DecodeFault;
 pub use filter_table::{Decision, Load, Veto, Vote};
-pub use loaded::{Carrier, Loaded};
+pub use loaded::{Carrier, CodedProgram, Loaded};
 pub use message::Message;
-pub use reading::{decode, decode_into};
+pub use reading::{decode, decode_in_place};
 pub use short::{ShortBytes, short_bytes};
 pub use writing::encode;

@@ -1,6 +1,6 @@
 //! Messages read from bytes.
 
-ghost use Rattle.std.specs.Prelude.{◌≡◌, ◌≤◌, ℕ, ⊤, IfOk, IfErr, OnErr, MatchResult, length, take};
+ghost use Rattle.std.specs.Prelude.{◌≡◌, ◌≤◌, ℕ, ⊤, IfOk, IfErr, OnErr, MatchResult, length};
 ghost use Rattle.bpf_insn.specs.declared.insn.TheConstants.{MAX_INSNS};
 ghost use Rattle.monitor_messages.specs.declared.loaded.Carrier.TheVariants as carrier;
 ghost use Rattle.monitor_messages.specs.declared.message.Message.{Message as GhostMessage};
@@ -8,11 +8,12 @@ ghost use Rattle.monitor_messages.specs.declared.fault.DecodeFault.TheVariants.{
 ghost use Rattle.filter_table.specs.Loading.{load_op};
 ghost use Rattle.monitor_messages.specs.Coding.{Coded};
 ghost use Rattle.monitor_messages.specs.Carrying.{IsLoading, LoadsAt, CarriesFrom, CarriesProgram, loaded_message};
+ghost use Rattle.monitor_messages.specs.Programs.{insns_of};
 ghost use Rattle.monitor_messages.specs.Reading as spec;
 ghost use Rattle.monitor_messages.specs.Reading.{Gives};
 
 use crate::fault::DecodeFault;
-use crate::loaded::{Carrier, Loaded};
+use crate::loaded::{Carrier, CodedProgram, Loaded};
 use crate::message::Message;
 use bpf_insn::{Insn, MAX_INSNS};
 use endpoint_caps::Rights;
@@ -36,42 +37,39 @@ pub fn decode(alloc: Global, bytes: &[u8]) -> Result<(u64, Message), DecodeFault
     message_in(alloc, bytes)
 }
 
-/// The message whose bytes these are, all of the bytes, where it carries a program: `decode` without memory. The program goes to
-/// the front of the room.
-pub fn decode_into(room: &mut [Insn], bytes: &[u8]) -> Result<Loaded, DecodeFault>
-    requires room { length room.old ≡ MAX_INSNS }
-    requires carries { CarriesProgram bytes.now }
-    ensures found { IfOk result (λ found. Coded bytes.now found.stamp (loaded_message found.carrier found.load (take found.count room.new))) }
-    ensures count { IfOk result (λ found. found.count ≤ length room.new) }
+/// The message whose bytes these are, all of the bytes, where it carries a program: `decode` without memory. The program stays
+/// where it lies.
+pub fn decode_in_place(bytes: &[u8]) -> Result<Loaded<'_>, DecodeFault>
+    requires { CarriesProgram bytes.now }
+    ensures found { IfOk result (λ found. Coded bytes.now found.stamp (loaded_message found.carrier found.load (insns_of found.program.bytes.now))) }
     ensures no_message { OnErr result ((stamp : ℕ) (message : GhostMessage) → Coded bytes.now stamp message → ⊥) }
     ensures fault { IfErr result (λ fault. fault ≡ BadMessage) }
-    ensures room { length room.new ≡ length room.old }
 {
-    carried_into(room, bytes)
+    carried_in_place(bytes)
 }
 
 #[tactic(auto, unfolding(crate::specs::Reading::message_in, crate::specs::Reading::body_of))]
-fn carried_into(room: &mut [Insn], bytes: &[u8]) -> Result<Loaded, DecodeFault>
-    requires room { length room.old ≡ MAX_INSNS }
-    requires carries { CarriesProgram bytes.now }
-    ensures found { Gives ⊥ (λ found. (found.stamp, loaded_message found.carrier found.load (take found.count room.new))) result (spec.message_in bytes.now) }
-    ensures count { IfOk result (λ found. found.count ≤ MAX_INSNS) }
-    ensures room { length room.new ≡ length room.old }
+fn carried_in_place(bytes: &[u8]) -> Result<Loaded<'_>, DecodeFault>
+    requires { CarriesProgram bytes.now }
+    ensures { Gives ⊥ (λ found. (found.stamp, loaded_message found.carrier found.load (insns_of found.program.bytes.now))) result (spec.message_in bytes.now) }
 {
     let (kind, rest) = u8_at(bytes)?;
     let (stamp, rest) = u64_at(rest)?;
-    let (carrier, load, count) = if kind == 1 {
-        let (txn, load, count) = prepare_into(room, rest)?;
-        (Carrier::Prepare { txn }, load, count)
-    } else {
-        let (load, count) = load_into(room, rest)?;
-        (Carrier::Submit, load, count)
-    };
+    if kind == 1 {
+        let (txn, load, program) = prepare_in_place(rest)?;
+        return Ok(Loaded {
+            stamp,
+            carrier: Carrier::Prepare { txn },
+            load,
+            program,
+        });
+    }
+    let (load, program) = load_in_place(rest)?;
     Ok(Loaded {
         stamp,
-        carrier,
+        carrier: Carrier::Submit,
         load,
-        count,
+        program,
     })
 }
 
@@ -126,16 +124,13 @@ fn prepare_in(alloc: Global, bytes: &[u8]) -> Result<Message, DecodeFault>
 }
 
 #[tactic(auto, unfolding(crate::specs::Reading::prepare_in))]
-fn prepare_into(room: &mut [Insn], bytes: &[u8]) -> Result<(u64, Load, usize), DecodeFault>
-    requires room { length room.old ≡ MAX_INSNS }
-    requires loads { LoadsAt 8 bytes.now }
-    ensures found { Gives ⊥ (λ found. loaded_message (carrier.Prepare found.0) found.1 (take found.2 room.new)) result (spec.prepare_in bytes.now) }
-    ensures count { IfOk result (λ found. found.2 ≤ MAX_INSNS) }
-    ensures room { length room.new ≡ length room.old }
+fn prepare_in_place(bytes: &[u8]) -> Result<(u64, Load, CodedProgram<'_>), DecodeFault>
+    requires { LoadsAt 8 bytes.now }
+    ensures { Gives ⊥ (λ found. loaded_message (carrier.Prepare found.0) found.1 (insns_of found.2.bytes.now)) result (spec.prepare_in bytes.now) }
 {
     let (txn, rest) = u64_at(bytes)?;
-    let (load, count) = load_into(room, rest)?;
-    Ok((txn, load, count))
+    let (load, program) = load_in_place(rest)?;
+    Ok((txn, load, program))
 }
 
 #[tactic(auto, unfolding(crate::specs::Reading::vote_in, crate::specs::Reading::last_u8))]
@@ -207,39 +202,28 @@ fn op_of(alloc: Global, kind: u8, domain: u16, bytes: &[u8]) -> Result<Op, Decod
 
 /// An operation that brings a program.
 #[tactic(auto, unfolding(crate::specs::Reading::op_in))]
-fn load_into(room: &mut [Insn], bytes: &[u8]) -> Result<(Load, usize), DecodeFault>
-    requires room { length room.old ≡ MAX_INSNS }
-    requires loads { LoadsAt 0 bytes.now }
-    ensures found { Gives ⊥ (λ found. load_op found.0 (take found.1 room.new)) result (spec.op_in bytes.now) }
-    ensures count { IfOk result (λ found. found.1 ≤ MAX_INSNS) }
-    ensures room { length room.new ≡ length room.old }
+fn load_in_place(bytes: &[u8]) -> Result<(Load, CodedProgram<'_>), DecodeFault>
+    requires { LoadsAt 0 bytes.now }
+    ensures { Gives ⊥ (λ found. load_op found.0 (insns_of found.1.bytes.now)) result (spec.op_in bytes.now) }
 {
     let (kind, rest) = u8_at(bytes)?;
     let (domain, rest) = u16_at(rest)?;
-    load_of(room, kind, domain, rest)
+    load_of(kind, domain, rest)
 }
 
 #[tactic(auto, unfolding(crate::specs::Reading::op_of, crate::specs::Reading::loaded_in))]
-fn load_of(
-    room: &mut [Insn],
-    kind: u8,
-    domain: u16,
-    bytes: &[u8],
-) -> Result<(Load, usize), DecodeFault>
-    requires room { length room.old ≡ MAX_INSNS }
-    requires loading { IsLoading kind }
-    ensures found { Gives ⊥ (λ found. load_op found.0 (take found.1 room.new)) result (spec.op_of kind domain bytes.now) }
-    ensures count { IfOk result (λ found. found.1 ≤ MAX_INSNS) }
-    ensures room { length room.new ≡ length room.old }
+fn load_of(kind: u8, domain: u16, bytes: &[u8]) -> Result<(Load, CodedProgram<'_>), DecodeFault>
+    requires { IsLoading kind }
+    ensures { Gives ⊥ (λ found. load_op found.0 (insns_of found.1.bytes.now)) result (spec.op_of kind domain bytes.now) }
 {
     let (id, rest) = u32_at(bytes)?;
-    let count = program_into(room, rest)?;
+    let program = program_in_place(rest)?;
     let load = if kind == 5 {
         Load::Install { domain, cap: id }
     } else {
         Load::Replace { domain, filter: id }
     };
-    Ok((load, count))
+    Ok((load, program))
 }
 
 #[tactic(auto, unfolding(crate::specs::Reading::mint_in))]
@@ -293,21 +277,29 @@ fn program_in(alloc: Global, bytes: &[u8]) -> Result<Program, DecodeFault>
     Ok(Program::from_vec(alloc, code)?)
 }
 
-/// A program, which goes to the front of the room.
+/// A program, which stays where it lies.
 #[tactic(auto, unfolding(crate::specs::Reading::program_in))]
-fn program_into(room: &mut [Insn], bytes: &[u8]) -> Result<usize, DecodeFault>
-    requires { length room.old ≡ MAX_INSNS }
-    ensures found { Gives ⊥ (λ count. take count room.new) result (spec.program_in bytes.now) }
-    ensures count { IfOk result (λ count. count ≤ MAX_INSNS) }
-    ensures room { length room.new ≡ length room.old }
+fn program_in_place(bytes: &[u8]) -> Result<CodedProgram<'_>, DecodeFault>
+    ensures { Gives ⊥ (λ program. insns_of program.bytes.now) result (spec.program_in bytes.now) }
 {
     let (count, rest) = u16_at(bytes)?;
     let count = usize::from(count);
-    if count > room.len() {
+    if count <= MAX_INSNS {
+        insns_in_place(rest, count)
+    } else {
+        Err(DecodeFault::BadMessage)
+    }
+}
+
+/// So many instructions, with nothing after them.
+fn insns_in_place(bytes: &[u8], count: usize) -> Result<CodedProgram<'_>, DecodeFault>
+    requires { count ≤ MAX_INSNS }
+    ensures { Gives ⊥ (λ program. insns_of program.bytes.now) result (spec.insns_in count bytes.now) }
+{
+    if bytes.len() != 8 * count {
         return Err(DecodeFault::BadMessage);
     }
-    fill_insns(&mut room[..count], rest)?;
-    Ok(count)
+    Ok(CodedProgram { bytes })
 }
 
 /// As many instructions as there is room for, with nothing after them.
@@ -325,7 +317,7 @@ fn fill_insns(code: &mut [Insn], bytes: &[u8]) -> Result<(), DecodeFault>
 }
 
 #[tactic(auto, unfolding(crate::specs::Reading::insn_at))]
-fn insn_at(bytes: &[u8]) -> Result<(Insn, &[u8]), DecodeFault>
+pub(crate) fn insn_at(bytes: &[u8]) -> Result<(Insn, &[u8]), DecodeFault>
     ensures { Gives ⊥ (λ x. (x.0, x.1.now)) result (spec.insn_at bytes.now) }
 {
     let (code, rest) = u16_at(bytes)?;

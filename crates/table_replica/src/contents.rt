@@ -23,7 +23,7 @@ use crate::shares::{NewShare, Share, Shares, fit};
 use crate::{Limits, Load, Made, Op, OpFault, StageFault};
 use bpf_insn::Insn;
 use endpoint_caps::{CapFault, Caps, Right};
-use filter_verify::{Refusal, Room, Verified, verify};
+use filter_verify::{Code, Refusal, Verified, check, verify};
 use std::alloc::{AllocError, Global};
 use std::marker::Model;
 use std::snapshot::Snapshot;
@@ -216,11 +216,11 @@ impl Contents {
 
     /// The same of an operation whose program lies elsewhere.
     #[tactic(auto, using(filter_table::proofs::Changes::cannot_first, filter_table::proofs::Changes::never_memory))]
-    fn tested_load(&self, budget: u32, load: Load, program: &[Insn]) -> Result<(), StageFault>
+    fn tested_load<C: Code>(&self, budget: u32, load: Load, program: C) -> Result<(), StageFault>
         requires fits { instructions_of self.now.table.filters ≤ budget }
         requires sound { IsSoundTable self.now.table }
-        ensures ok { OnOk result (first (tests self.now.table budget (load_op load program.now)) ≡ None) }
-        ensures err { IfErr result (CannotStage self.now.table budget (load_op load program.now) None) }
+        ensures ok { OnOk result (first (tests self.now.table budget (load_op load (C.insns program))) ≡ None) }
+        ensures err { IfErr result (CannotStage self.now.table budget (load_op load (C.insns program)) None) }
         ensures memory { result ≡ Err StageFault.NoMemory → ⊥ }
     {
         match self.refusal_of_load(budget, load, program) {
@@ -229,10 +229,15 @@ impl Contents {
         }
     }
 
-    fn refusal_of_load(&self, budget: u32, load: Load, program: &[Insn]) -> Result<(), StageFault>
+    fn refusal_of_load<C: Code>(
+        &self,
+        budget: u32,
+        load: Load,
+        program: C,
+    ) -> Result<(), StageFault>
         requires fits { instructions_of self.now.table.filters ≤ budget }
         requires sound { IsSoundTable self.now.table }
-        ensures { result_err result ≡ first (tests self.now.table budget (load_op load program.now)) }
+        ensures { result_err result ≡ first (tests self.now.table budget (load_op load (C.insns program))) }
     {
         if self.version == u64::MAX {
             return Err(StageFault::Rule(OpFault::VersionsSpent));
@@ -245,15 +250,15 @@ impl Contents {
         }
     }
 
-    fn refusal_of_install(
+    fn refusal_of_install<C: Code>(
         &self,
         budget: u32,
         domain: u16,
         cap: u32,
-        program: &[Insn],
+        program: C,
     ) -> Result<(), StageFault>
         requires { instructions_of self.now.table.filters ≤ budget }
-        ensures { result_err result ≡ first (install_tests self.now.table budget domain cap program.now) }
+        ensures { result_err result ≡ first (install_tests self.now.table budget domain cap (C.insns program)) }
     {
         ruled(self.caps.may(cap, domain, Right::Receive))?;
         if self.filters.len() >= self.limits.filters() as usize {
@@ -263,13 +268,17 @@ impl Contents {
         if share.filters >= self.limits.domain_filters() {
             return Err(StageFault::Rule(OpFault::DomainFull));
         }
-        if !fit(share.instructions, program, self.limits.domain_insns()) {
+        if !fit(
+            share.instructions,
+            program.count(),
+            self.limits.domain_insns(),
+        ) {
             return Err(StageFault::Rule(OpFault::DomainFull));
         }
         if self.next_filter == u32::MAX {
             return Err(StageFault::Rule(OpFault::FilterIdsSpent));
         }
-        if program.len() > (budget - self.instructions) as usize {
+        if program.count() > (budget - self.instructions) as usize {
             return Err(StageFault::Budget);
         }
         Ok(())
@@ -293,15 +302,15 @@ impl Contents {
         }
     }
 
-    fn refusal_of_replace(
+    fn refusal_of_replace<C: Code>(
         &self,
         budget: u32,
         domain: u16,
         id: u32,
-        program: &[Insn],
+        program: C,
     ) -> Result<(), StageFault>
         requires { IsSoundTable self.now.table }
-        ensures { result_err result ≡ first (replace_tests self.now.table budget domain id program.now) }
+        ensures { result_err result ≡ first (replace_tests self.now.table budget domain id (C.insns program)) }
     {
         let cap = self.owned(domain, id)?;
         ruled(self.caps.may(cap, domain, Right::Receive))?;
@@ -316,23 +325,27 @@ impl Contents {
     }
 
     /// Whether the domain's filters are within its limit on instructions, once the program of one that it owns is replaced by this.
-    fn owned_fit_with(&self, domain: u16, id: u32, program: &[Insn]) -> bool
+    fn owned_fit_with<C: Code>(&self, domain: u16, id: u32, program: C) -> bool
         requires sound { IsSoundTable self.now.table }
         requires owned { is_some_and (λ f. f.owner == domain) (filter_at self.now.table.filters id) ≡ true }
-        ensures { result ≡ leb (instructions_of (owned_by domain (replaced self.now.table.filters id program.now))) self.now.table.limits.domain_insns }
+        ensures { result ≡ leb (instructions_of (owned_by domain (replaced self.now.table.filters id (C.insns program)))) self.now.table.limits.domain_insns }
     {
         let left = self.share_without(domain, id);
-        fit(left.instructions, program, self.limits.domain_insns())
+        fit(
+            left.instructions,
+            program.count(),
+            self.limits.domain_insns(),
+        )
     }
 
     /// Whether the filters are within a budget, once the program of one that is listed is replaced by this.
-    fn fit_with(&self, id: u32, program: &[Insn], budget: u32) -> bool
+    fn fit_with<C: Code>(&self, id: u32, program: C, budget: u32) -> bool
         requires sound { IsSoundTable self.now.table }
         requires there { is_none (filter_at self.now.table.filters id) ≡ false }
-        ensures { result ≡ leb (instructions_of (replaced self.now.table.filters id program.now)) budget }
+        ensures { result ≡ leb (instructions_of (replaced self.now.table.filters id (C.insns program))) budget }
     {
         let left = self.instructions_without(id);
-        fit(left, program, budget)
+        fit(left, program.count(), budget)
     }
 
     /// How many instructions the program of a filter has; 0 where none has this id.
@@ -376,7 +389,7 @@ impl Contents {
 
     /// What `prepare` would answer, memory aside. Takes no memory.
     #[tactic(auto, using(filter_table::proofs::Changes::allowed_if, crate::proofs::Refusals::cannot_program))]
-    pub(crate) fn check(&self, room: &mut Room, budget: u32, op: &Op) -> Result<(), StageFault>
+    pub(crate) fn check(&self, budget: u32, op: &Op) -> Result<(), StageFault>
         requires fits { instructions_of self.now.table.filters ≤ budget }
         requires sound { IsSoundTable self.now.table }
         ensures ok { OnOk result (Allowed self.now.table budget op.now None) }
@@ -384,26 +397,25 @@ impl Contents {
         ensures memory { result ≡ Err StageFault.NoMemory → ⊥ }
     {
         self.tested(budget, op)?;
-        verified_in(room, op)
+        program_accepted(op)
     }
 
     /// The same of an operation whose program lies elsewhere.
     #[tactic(auto, using(filter_table::proofs::Changes::allowed_if, crate::proofs::Refusals::cannot_program))]
-    pub(crate) fn check_load(
+    pub(crate) fn check_load<C: Code>(
         &self,
-        room: &mut Room,
         budget: u32,
         load: Load,
-        program: &[Insn],
+        program: C,
     ) -> Result<(), StageFault>
         requires fits { instructions_of self.now.table.filters ≤ budget }
         requires sound { IsSoundTable self.now.table }
-        ensures ok { OnOk result (Allowed self.now.table budget (load_op load program.now) None) }
-        ensures err { IfErr result (CannotStage self.now.table budget (load_op load program.now) None) }
+        ensures ok { OnOk result (Allowed self.now.table budget (load_op load (C.insns program)) None) }
+        ensures err { IfErr result (CannotStage self.now.table budget (load_op load (C.insns program)) None) }
         ensures memory { result ≡ Err StageFault.NoMemory → ⊥ }
     {
         self.tested_load(budget, load, program)?;
-        accepted_in(room, program)
+        accepts(program)
     }
 
     /// What an operation makes.
@@ -613,26 +625,24 @@ fn accepted(alloc: Global, code: &[Insn]) -> Result<Verified, StageFault>
 }
 
 /// Whether the program that an operation brings is accepted, memory aside. Takes no memory.
-fn verified_in(room: &mut Room, op: &Op) -> Result<(), StageFault>
+fn program_accepted(op: &Op) -> Result<(), StageFault>
     ensures ok { OnOk result (Verifies (program_of op.now) None) }
     ensures err { IfErr result (RefusesAs (program_of op.now)) }
     ensures memory { result ≡ Err StageFault.NoMemory → ⊥ }
 {
     match op {
-        Op::Install { program, .. } | Op::Replace { program, .. } => {
-            accepted_in(room, program.as_slice())
-        }
+        Op::Install { program, .. } | Op::Replace { program, .. } => { accepts(program.as_slice()) }
         _ => Ok(()),
     }
 }
 
 /// Whether a program is accepted, memory aside. Takes no memory.
-fn accepted_in(room: &mut Room, code: &[Insn]) -> Result<(), StageFault>
-    ensures ok { OnOk result (Verifies (Some code.now) None) }
-    ensures err { IfErr result (RefusesAs (Some code.now)) }
+fn accepts<C: Code>(code: C) -> Result<(), StageFault>
+    ensures ok { OnOk result (Verifies (Some (C.insns code)) None) }
+    ensures err { IfErr result (RefusesAs (Some (C.insns code))) }
     ensures memory { result ≡ Err StageFault.NoMemory → ⊥ }
 {
-    match room.verify(code) {
+    match check(code) {
         Ok(()) => Ok(()),
         Err(breach) => Err(StageFault::Rule(OpFault::BadProgram {
             rule: breach.rule,

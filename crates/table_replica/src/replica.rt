@@ -9,8 +9,7 @@ ghost use Rattle.filter_table.specs.Soundness.{IsSoundTable, IdsGrow};
 ghost use Rattle.filter_table.specs.declared.operation.Op.{Op as GhostOp};
 
 use crate::{
-    Contents, FilterIter, Insn, Kept, Limits, Load, Made, NothingStaged, Op, Room, StageFault,
-    Workspace,
+    Code, Contents, FilterIter, Kept, Limits, Load, Made, NothingStaged, Op, StageFault, Workspace,
 };
 use endpoint_caps::Caps;
 use std::alloc::{AllocError, Global};
@@ -204,8 +203,8 @@ impl Replica {
             .accepting_with(workspace, bytes, original)
     }
 
-    /// What `stage` would answer, memory aside. Nothing changes. A program is verified in the room: no memory is taken.
-    pub fn check(&self, room: &mut Room, op: &Op) -> Result<(), StageFault>
+    /// What `stage` would answer, memory aside. Nothing changes, and no memory is taken.
+    pub fn check(&self, op: &Op) -> Result<(), StageFault>
         ensures ok { OnOk result (Allowed self.now.shown self.now.budget op.now None) }
         ensures nothing_staged { OnOk result (self.now.staged ≡ None) }
         ensures err { IfErr result (CannotStage self.now.shown self.now.budget op.now self.now.staged) }
@@ -215,26 +214,21 @@ impl Replica {
         if self.contents.staged() {
             return Err(StageFault::AlreadyStaged);
         }
-        self.contents.check(room, self.budget, op)
+        self.contents.check(self.budget, op)
     }
 
-    /// The same of an operation whose program lies elsewhere.
-    pub fn check_load(
-        &self,
-        room: &mut Room,
-        load: Load,
-        program: &[Insn],
-    ) -> Result<(), StageFault>
-        ensures ok { OnOk result (Allowed self.now.shown self.now.budget (load_op load program.now) None) }
+    /// The same of an operation whose program lies elsewhere: it is verified there.
+    pub fn check_load<C: Code>(&self, load: Load, program: C) -> Result<(), StageFault>
+        ensures ok { OnOk result (Allowed self.now.shown self.now.budget (load_op load (C.insns program)) None) }
         ensures nothing_staged { OnOk result (self.now.staged ≡ None) }
-        ensures err { IfErr result (CannotStage self.now.shown self.now.budget (load_op load program.now) self.now.staged) }
+        ensures err { IfErr result (CannotStage self.now.shown self.now.budget (load_op load (C.insns program)) self.now.staged) }
         ensures memory { result ≡ Err StageFault.NoMemory → ⊥ }
         ensures fits { instructions_of self.now.shown.filters ≤ self.now.budget }
     {
         if self.contents.staged() {
             return Err(StageFault::AlreadyStaged);
         }
-        self.contents.check_load(room, self.budget, load, program)
+        self.contents.check_load(self.budget, load, program)
     }
 
     /// Plans the operation and takes the memory that it needs, so that `commit` and `abort` take none. The table that is shown stays.

@@ -42,11 +42,11 @@ impl Share {
     }
 }
 
-/// Whether so many instructions and those of a program are within a limit together.
-pub(crate) fn fit(instructions: u32, program: &[Insn], most: u32) -> bool
-    ensures { result ≡ leb (instructions + length program.now) most }
+/// Whether so many instructions and those of a program, so many more, are within a limit together.
+pub(crate) fn fit(instructions: u32, more: usize, most: u32) -> bool
+    ensures { result ≡ leb (instructions + more) most }
 {
-    instructions <= most && program.len() <= (most - instructions) as usize
+    instructions <= most && more <= (most - instructions) as usize
 }
 
 /// What the domains have that have a filter. It lies on the heap, as the filters do, and takes no memory where there is none.

@@ -8,7 +8,7 @@ use monitor_2pc::{
 use std::alloc::Global;
 use std::marker::Model;
 use std::process::Abort;
-use table_replica::{Op, Replica, Room};
+use table_replica::{Op, Replica};
 use test_words::Ask;
 
 /// Core 0 with its replica.
@@ -69,7 +69,6 @@ impl Core0 {
 pub(crate) struct Peer {
     pub core: Participant,
     pub table: Replica,
-    pub room: Room,
 }
 
 impl Model for Peer {
@@ -99,18 +98,13 @@ impl Peer {
         Peer {
             core: Participant::new(0),
             table: Replica::new(alloc, budget).expect(rt, "there is memory"),
-            room: Room::new(alloc).expect(rt, "there is memory"),
         }
     }
 
     /// What it answers, being short of memory or not.
     pub fn answers(&mut self, rt: &impl Abort, alloc: Global, sent: Sent, short: bool) -> Heard {
         let message = said(rt, alloc, sent);
-        heard_of(
-            &self
-                .core
-                .answer(alloc, &mut self.room, &mut self.table, &message, short),
-        )
+        heard_of(&self.core.answer(alloc, &mut self.table, &message, short))
     }
 
     /// The operation that it sends to core 0; none where it has sent one.

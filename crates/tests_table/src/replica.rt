@@ -5,9 +5,7 @@ use bpf_insn::Insn;
 use endpoint_caps::{Cap, CapLimits, Rights};
 use std::alloc::{AllocError, Global};
 use std::process::Abort;
-use table_replica::{
-    Kept, Limits, Made, NothingStaged, Op, OpFault, Program, Replica, Room, StageFault,
-};
+use table_replica::{Kept, Limits, Made, NothingStaged, Op, OpFault, Program, Replica, StageFault};
 use test_words::{ALL, Ask, THREE, program};
 
 type Outcome = Result<Made, StageFault>;
@@ -30,15 +28,9 @@ fn long(alloc: Global, count: usize) -> Result<Program, AllocError> {
     Program::from_vec(alloc, code)
 }
 
-/// What `stage` would answer, memory aside.
-fn checked(rt: &impl Abort, alloc: Global, replica: &Replica, op: &Op) -> Result<(), StageFault> {
-    let mut room = Room::new(alloc).expect(rt, "there is memory");
-    replica.check(&mut room, op)
-}
-
 /// What the operation makes once it is committed, or why it is not staged; `stage` answers what `check` answered.
 fn outcome(rt: &impl Abort, alloc: Global, replica: &mut Replica, op: &Op) -> Outcome {
-    let checked = checked(rt, alloc, replica, op);
+    let checked = replica.check(op);
     equal(rt, replica.staged(), false);
     equal(rt, replica.stage(alloc, op), checked);
     equal(rt, replica.staged(), checked.is_ok());
@@ -170,7 +162,7 @@ fn stages(
     place: &Place<'_>,
 ) {
     let op = asked(rt, alloc, ask);
-    equal_at(rt, checked(rt, alloc, replica, &op), wanted, place);
+    equal_at(rt, replica.check(&op), wanted, place);
     equal_at(rt, replica.stage(alloc, &op), wanted, place);
 }
 
@@ -712,9 +704,7 @@ fn seen(replica: &Replica) -> (bool, u64, u32, usize, usize, usize) {
 
 /// A growth that is refused in `stage` changes nothing, and the same call again answers as with ample memory.
 fn commits_again(rt: &impl Abort, alloc: Global, replica: &mut Replica, op: &Op, wanted: Made) {
-    if let Ok(mut room) = Room::new(alloc) {
-        equal(rt, replica.check(&mut room, op), Ok(()));
-    }
+    equal(rt, replica.check(op), Ok(()));
     let before = seen(replica);
     if let Err(fault) = replica.stage(alloc, op) {
         equal(rt, fault, StageFault::NoMemory);

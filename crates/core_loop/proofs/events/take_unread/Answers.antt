@@ -1,7 +1,7 @@
 use Rattle.std.proofs.Common.{subst}
 use Rattle.std.specs.Prelude.{Some}
 use Rattle.monitor_messages.specs.declared.message.Message.TheVariants.{Vote}
-use Rattle.core_steps.specs.declared.spare.Unread.{Unread}
+use Rattle.core_steps.specs.declared.unread.Unread.{Unread}
 use Rattle.core_steps.specs.OtherCoreSteps.{other_place}
 use Rattle.core_steps.specs.Unread.{CannotVote}
 use Rattle.core_loop.specs.declared.refusal.Refusal.{Refusal}

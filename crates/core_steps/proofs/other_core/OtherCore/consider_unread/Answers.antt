@@ -7,4 +7,4 @@ use Rattle.core_steps.proofs.other_core.OtherCore.consider_unread.Goals as goal
 pub returns-clause-considers : goal.returns-clause-considers
 returns-clause-considers c =
     let core : OtherCore = c.args.self.now in
-    IfOk-weaker c.ballot.result _ _ (λ ballot h. (h.op, h.coded, λ short. (h.not_voted, h.next, h.casts short, ap (λ (s : Option Op). record core { replica = record core.replica { staged = s } }) h.stages_none, refl))) c.ballot.ensures.ballot
+    IfOk-weaker c.unread_ballot.result _ _ (λ ballot h. (h.op, h.coded, λ short. (h.not_voted, h.next, h.casts short, ap (λ (s : Option Op). record core { replica = record core.replica { staged = s } }) h.stages_none, refl))) c.unread_ballot.ensures.ballot
