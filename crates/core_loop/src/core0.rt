@@ -124,7 +124,7 @@ fn ready_take<L: Links>(
 }
 
 /// Starts the first of its own requests. Core 0 is idle, and the links to its others take messages.
-#[inline(never)]
+#[inline(always)]
 pub(crate) fn start<L: Links>(
     core: &mut Core0,
     links: &mut L,
@@ -200,7 +200,7 @@ fn ready_start(
 }
 
 /// Starts the request that a core has waiting. Core 0 is idle, and the links to its others take messages.
-#[inline(never)]
+#[inline(always)]
 pub(crate) fn start_for<L: Links>(
     core: &mut Core0,
     links: &mut L,
@@ -273,6 +273,7 @@ fn ready_start_for(
 
 /// Begins the next request, where core 0 is idle and the links to its others take messages: that of the next core that has one,
 /// going round after the core `last`, whose request it began last. So no core that keeps asking holds up another.
+#[inline(always)]
 pub(crate) fn begin<L: Links>(
     core: &mut Core0,
     links: &mut L,

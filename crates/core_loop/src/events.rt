@@ -33,6 +33,7 @@ use table_replica::{Replica, Workspace};
 use world_histories::Stamped;
 
 /// Begins the next request of a core of this number, if it can.
+#[inline(always)]
 pub(crate) fn begin<L: Links>(
     part: &mut Part,
     links: &mut L,
@@ -125,8 +126,8 @@ pub(crate) fn take<L: Links>(
 }
 
 /// Takes the first message that is kept of a peer, which has one, where the links that its answer needs take messages.
-// Not in line, so that a request that is begun instead has its room on the stack.
-#[inline(never)]
+// In line, as what is begun instead: so each has the room of the other on the stack.
+#[inline(always)]
 pub(crate) fn take_kept<L: Links>(
     part: &mut Part,
     links: &mut L,
@@ -254,6 +255,7 @@ fn receive_front(
 }
 
 /// Begins the next request, or receives the front job where `rx` is true: what comes where no message can be taken.
+#[inline(always)]
 pub(crate) fn begin_or_receive<L: Links>(
     part: &mut Part,
     links: &mut L,

@@ -162,6 +162,8 @@ impl<L: Links> Core<L> {
     /// After `Stopped` every turn answers the same. It takes no memory where there is no message, no request and no job that
     /// it can receive. A core other than 0 votes NoMemory in the turn in which memory is refused to an operation that it is
     /// asked about, or to the operation's program: it never answers `NoMemory` to a message.
+    // In line, so that what it answers isn't on the stack twice.
+    #[inline(always)]
     pub fn turn(&mut self, rx: bool) -> Turn
         ensures core { SameCore L.same self.old self.new }
         ensures requests { begun self.new.history ++ self.new.pending ≡ begun self.old.history ++ self.old.pending }

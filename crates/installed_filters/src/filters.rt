@@ -273,6 +273,7 @@ fn coming(id: u32, owner: u16, cap: u32, endpoint: u16, home: Home) -> Change
 }
 
 /// A filter gets the program of a home, and leaves that of a slot.
+#[inline(always)]
 fn exchanging(
     alloc: Global,
     lists: &Lists,

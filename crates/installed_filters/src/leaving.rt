@@ -10,6 +10,7 @@ use crate::slots::Slot;
 use std::alloc::{AllocError, Global};
 
 /// The lists without one of the filters with a program, if they are others.
+#[inline(always)]
 pub(crate) fn lists_without(
     alloc: Global,
     lists: &Lists,
@@ -50,8 +51,8 @@ pub(crate) fn lists_swapped(
 }
 
 /// These lists without one of the filters with a program, and with a plan.
-// Not in line, so that its room on the stack isn't there while other lists are made.
-#[inline(never)]
+// In line, as what it calls has its room on the stack apart.
+#[inline(always)]
 fn next_without(
     alloc: Global,
     next: NextLists,
