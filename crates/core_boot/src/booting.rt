@@ -75,9 +75,13 @@ fn add_core(
     ensures port_room { vec_capacity ports.new ≡ vec_capacity ports.old }
 {
     let number = cores.len() as u16;
-    let core = start_core(alloc, links, limits, budget, number, count, requests, ports)?;
-    cores.push_reserved(core);
-    Ok(())
+    match start_core(alloc, links, limits, budget, number, count, requests, ports) {
+        Ok(core) => {
+            cores.push_reserved(core);
+            Ok(())
+        }
+        Err(error) => Err(error),
+    }
 }
 
 /// The cores over these links come up, each with its budget and its requests.

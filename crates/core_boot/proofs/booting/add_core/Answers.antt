@@ -2,10 +2,10 @@ use Rattle.std.proofs.Common.{ℕ, ◌∙◌, subst}
 use Rattle.core_boot.specs.Booting.{ComesUp}
 use Rattle.core_boot.proofs.booting.add_core.Goals as goal
 
-pub returns-clause-adds : goal.returns-clause-adds
-returns-clause-adds c =
-    let core = c.in_ok-core.core in
-    let last = c.in_ok-core.ensures.up in
+pub returns-in-Ok-clause-adds : goal.returns-in-Ok-clause-adds
+returns-in-Ok-clause-adds c =
+    let core = c.in-Ok.core in
+    let last = c.in-Ok.ensures.up in
     record {
       core = core;
       port = last.port;
