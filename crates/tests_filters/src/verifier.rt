@@ -2,7 +2,7 @@
 
 use crate::facts::{equal, holds};
 use bpf_insn::{Insn, MAX_INSNS};
-use filter_verify::{Places, Refusal, Verified, verify};
+use filter_verify::{Breach, Places, Refusal, Verified, check, verify};
 use std::alloc::Global;
 use std::process::Abort;
 
@@ -77,10 +77,9 @@ fn answer(alloc: Global, code: &[Insn]) -> Result<Verified, Refusal> {
     }
 }
 
-/// Both arms store the word that is loaded, then only one does.
-#[test]
-fn refused_growths_change_nothing(rt: HostRuntime) {
-    let both = [
+/// Both arms store the word that is loaded.
+fn stored_by_both() -> [Insn; 7] {
+    [
         insn(40, 0, 0, 12),
         insn(21, 0, 2, 2048),
         insn(2, 0, 0, 0),
@@ -88,17 +87,43 @@ fn refused_growths_change_nothing(rt: HostRuntime) {
         insn(2, 0, 0, 0),
         insn(96, 0, 0, 0),
         insn(22, 0, 0, 0),
-    ];
+    ]
+}
+
+/// Only one arm stores it.
+fn stored_by_one() -> [Insn; 5] {
+    [
+        insn(40, 0, 0, 12),
+        insn(21, 0, 1, 2048),
+        insn(2, 0, 0, 0),
+        insn(96, 0, 0, 0),
+        insn(22, 0, 0, 0),
+    ]
+}
+
+#[test]
+fn refused_growths_change_nothing(rt: HostRuntime) {
+    let both = stored_by_both();
     match answer(rt.alloc(), &both) {
         Ok(program) => equal(&rt, program.code(), both.as_slice()),
         Err(_refusal) => holds(&rt, false),
     }
-    let one = [both[0], insn(21, 0, 1, 2048), both[2], both[5], both[6]];
-    match answer(rt.alloc(), &one) {
+    match answer(rt.alloc(), &stored_by_one()) {
         Err(Refusal::Unwritten { pc, word, path }) => {
             equal(&rt, (pc, word), (3, 0));
             equal(&rt, path.as_slice(), &[0, 1, 3][..]);
         }
         _other => holds(&rt, false),
     }
+}
+
+/// Without memory no path is named.
+#[test]
+fn checked_without_memory(rt: HostRuntime) {
+    let both = stored_by_both();
+    equal(&rt, check(both.as_slice()), Ok(()));
+    let one = stored_by_one();
+    equal(&rt, check(one.as_slice()), Err(Breach { rule: 10, pc: 3 }));
+    let long = txa_program(&rt, rt.alloc(), MAX_INSNS);
+    equal(&rt, check(long.as_slice()), Err(Breach { rule: 2, pc: 0 }));
 }
