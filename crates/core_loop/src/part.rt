@@ -7,10 +7,20 @@ use std::marker::Model;
 use table_replica::Replica;
 
 /// Core 0 coordinates; every other core takes part. Each has its replica of the table.
-#[derive(Drop)]
 pub(crate) enum Part {
     Core0(Core0),
     OtherCore(OtherCore),
+}
+
+impl Drop for Part {
+    // Not in line, so that its room on the stack isn't there while a part is made or a core's other fields are dropped.
+    #[inline(never)]
+    fn drop(self) {
+        match self {
+            Part::Core0(core) => drop(core),
+            Part::OtherCore(core) => drop(core),
+        }
+    }
 }
 
 impl Part {
@@ -97,9 +107,13 @@ impl BoxedPart {
         ensures limits { IfOk result (λ boxed. (replica_of boxed).shown.limits ≡ limits) }
         ensures budget { IfOk result (λ boxed. (replica_of boxed).budget ≡ budget) }
     {
-        let core = Core0::new(alloc, limits, budget, cores)?;
-        let boxed = BoxedPart::of(alloc, Part::Core0(core))?;
-        Ok(boxed)
+        match Core0::new(alloc, limits, budget, cores) {
+            Ok(core) => {
+                let boxed = BoxedPart::of(alloc, Part::Core0(core))?;
+                Ok(boxed)
+            }
+            Err(error) => Err(error),
+        }
     }
 
     /// The part of the other core with this number.
@@ -118,9 +132,13 @@ impl BoxedPart {
         ensures limits { IfOk result (λ boxed. (replica_of boxed).shown.limits ≡ limits) }
         ensures budget { IfOk result (λ boxed. (replica_of boxed).budget ≡ budget) }
     {
-        let core = OtherCore::new(alloc, limits, budget)?;
-        let boxed = BoxedPart::of(alloc, Part::OtherCore(core))?;
-        Ok(boxed)
+        match OtherCore::new(alloc, limits, budget) {
+            Ok(core) => {
+                let boxed = BoxedPart::of(alloc, Part::OtherCore(core))?;
+                Ok(boxed)
+            }
+            Err(error) => Err(error),
+        }
     }
 
     /// This part.
@@ -129,8 +147,10 @@ impl BoxedPart {
     fn of(alloc: Global, part: Part) -> Result<BoxedPart, AllocError>
         ensures { IfOk result (λ boxed. boxed ≡ part) }
     {
-        let inner = Box::new(alloc, part)?;
-        Ok(BoxedPart { inner })
+        match Box::new(alloc, part) {
+            Ok(inner) => Ok(BoxedPart { inner }),
+            Err(_) => Err(AllocError),
+        }
     }
 
     /// Whether core 0 has no request of another core under way.

@@ -27,6 +27,8 @@ pub struct Core0 {
 
 // By hand, so that the proofs of its owners have one call and not a drop of each part.
 impl Drop for Core0 {
+    // In line, so that the core isn't copied to be dropped.
+    #[inline(always)]
     fn drop(self) {
         let Core0 {
             replica: _,

@@ -28,6 +28,8 @@ pub struct OtherCore {
 
 // By hand, so that the proofs of its owners have one call and not a drop of each part.
 impl Drop for OtherCore {
+    // In line, so that the core isn't copied to be dropped.
+    #[inline(always)]
     fn drop(self) {
         let OtherCore {
             replica: _,
