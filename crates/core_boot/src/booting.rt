@@ -75,6 +75,7 @@ fn add_core(
     ensures port_room { vec_capacity ports.new ≡ vec_capacity ports.old }
 {
     let number = cores.len() as u16;
+    // By cases, since `?` has the core on the stack once more.
     match start_core(alloc, links, limits, budget, number, count, requests, ports) {
         Ok(core) => {
             cores.push_reserved(core);

@@ -107,6 +107,7 @@ impl BoxedPart {
         ensures limits { IfOk result (λ boxed. (replica_of boxed).shown.limits ≡ limits) }
         ensures budget { IfOk result (λ boxed. (replica_of boxed).budget ≡ budget) }
     {
+        // By cases, since `?` has the core on the stack once more.
         match Core0::new(alloc, limits, budget, cores) {
             Ok(core) => {
                 let boxed = BoxedPart::of(alloc, Part::Core0(core))?;
@@ -132,6 +133,7 @@ impl BoxedPart {
         ensures limits { IfOk result (λ boxed. (replica_of boxed).shown.limits ≡ limits) }
         ensures budget { IfOk result (λ boxed. (replica_of boxed).budget ≡ budget) }
     {
+        // By cases, since `?` has the core on the stack once more.
         match OtherCore::new(alloc, limits, budget) {
             Ok(core) => {
                 let boxed = BoxedPart::of(alloc, Part::OtherCore(core))?;
