@@ -7,20 +7,10 @@ use std::marker::Model;
 use table_replica::Replica;
 
 /// Core 0 coordinates; every other core takes part. Each has its replica of the table.
+#[derive(Drop)]
 pub(crate) enum Part {
     Core0(Core0),
     OtherCore(OtherCore),
-}
-
-impl Drop for Part {
-    // Not in line, so that its room on the stack isn't there while a part is made or a core's other fields are dropped.
-    #[inline(never)]
-    fn drop(self) {
-        match self {
-            Part::Core0(core) => drop(core),
-            Part::OtherCore(core) => drop(core),
-        }
-    }
 }
 
 impl Part {
