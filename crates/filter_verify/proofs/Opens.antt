@@ -3,9 +3,9 @@ use Rattle.std.proofs.Common.{◌≡◌, ℕ, ◌+◌, ◌<◌, ◌≤◌, ◌�
 use Rattle.std.proofs.lemmas.Bool.{cases_eq, cases_lt}
 use Rattle.bpf_insn.specs.declared.insn.Insn.{Insn}
 use Rattle.bpf_insn.specs.declared.form.Form.{Form}
-use Rattle.bpf_insn.specs.Program.{FormAt, LeadsTo}
+use Rattle.bpf_insn.specs.Program.{FormAt}
 use Rattle.filter_verify.specs.Opens.{IsOpen, LoadsOpen, Spreads, IsFollowed, IsLeastOpen, IsLeastOfWords}
-use Rattle.filter_verify.specs.Paths.{Successor, LoadsWord, StoresWord, IsStoredOn, Path, IsUnwritten}
+use Rattle.filter_verify.specs.Paths.{Successor, LoadsWord, StoresWord, IsStoredOn, Path}
 use Rattle.filter_verify.specs.Places.{HasPlace}
 use Rattle.filter_verify.proofs.Forward.{Successor-later}
 use Rattle.filter_verify.proofs.Passes.{LeadsTo-here}

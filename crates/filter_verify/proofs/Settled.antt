@@ -1,5 +1,5 @@
 -- The pass over the whole program.
-use Rattle.std.proofs.Common.{◌≡◌, ℕ, zero, suc, ◌+◌, ◌<◌, ◌≤◌, ◌⊎◌, List, [], ◌∷◌, ◌++◌, refl, length, slice_index_or, Bool, true, false, inl, inr, arith, sym, subst, ◌∙◌, cond, eqb, ltb, rules}
+use Rattle.std.proofs.Common.{◌≡◌, ℕ, zero, suc, ◌+◌, ◌<◌, ◌≤◌, List, [], ◌∷◌, ◌++◌, refl, length, slice_index_or, Bool, true, false, inl, inr, arith, sym, subst, ◌∙◌, cond, eqb, ltb, rules}
 use Rattle.std.specs.Int.{bit_at}
 use Rattle.std.proofs.lemmas.Bool.{cases_lt}
 use Rattle.std.proofs.lemmas.Bool.Decides.{nat_tests}

@@ -1,4 +1,4 @@
-use Rattle.std.proofs.Common.{◌≡◌, ◌<◌, length, inl, inr, arith, refl}
+use Rattle.std.proofs.Common.{◌<◌, length, inl, inr, arith, refl}
 use Rattle.filter_verify.specs.declared.rules.Refusal.TheVariants.{Unwritten}
 use Rattle.filter_verify.proofs.Settled.{LoadsWord-inside}
 use Rattle.filter_verify.proofs.Shapes.{Shaped-word}

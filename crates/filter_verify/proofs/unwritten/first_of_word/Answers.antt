@@ -1,4 +1,4 @@
-use Rattle.std.proofs.Common.{◌≡◌, inl, inr, arith, refl, sym, subst}
+use Rattle.std.proofs.Common.{inl, inr, arith, refl, sym, subst}
 use Rattle.filter_verify.specs.Opens.{IsOpen}
 use Rattle.filter_verify.proofs.Opens.{first_open}
 use Rattle.filter_verify.proofs.unwritten.first_of_word.Goals as goal

@@ -1,4 +1,4 @@
-use Rattle.std.proofs.Common.{◌≡◌, ◌+◌, sym, subst, arith}
+use Rattle.std.proofs.Common.{◌+◌, sym, subst, arith}
 use Rattle.std.proofs.lemmas.Bool.{false≢true}
 use Rattle.filter_verify.specs.Opens.{IsLeastOfWords}
 use Rattle.filter_verify.proofs.Opens.{IsLeast-word, IsLeast-unloaded}
