@@ -350,7 +350,7 @@ module _ (limits : TableLimits) (budget : ℕ) (budgets : List ℕ) (f m l : Rin
 
   -- the parts of the others, by entry
   abbrev spare : OtherCore
-  spare = record { replica = replica_of l.part; participant = record { last = 0; voted = None; outstanding = false }; room = tt; spare = tt }
+  spare = record { replica = replica_of l.part; participant = record { last = 0; voted = None; outstanding = false } }
 
   abbrev core_at : ℕ → OtherCore
   core_at k = other_of spare (get_or ls k l).part
