@@ -14,20 +14,18 @@ import sys
 
 # Bytes that a call may take; all that aren't named take at most 2,048.
 MOST = {
-    "mkdemux_boot_cores": 7136,
-    "mkdemux_boot_limits_cores": 7136,
-    "mkdemux_turn": 4800,
-    "mkdemux_settle": 4800,
-    "mkdemux_close_core": 3392,
-    "mkdemux_assemble": 6656,
+    "mkdemux_boot_cores": 5568,
+    "mkdemux_boot_limits_cores": 5568,
+    "mkdemux_turn": 4480,
+    "mkdemux_settle": 4480,
+    "mkdemux_close_core": 3584,
 }
 OTHERS = 2048
 # Functions that call themselves, and how many of their calls are open at a time at most. A list that is sorted here has at most 65,536
-# items. A shape of operands has at most nine parts, and a machine 64 cores.
+# items. A machine has at most 64 cores.
 TIMES = {
     "core::slice::sort::unstable::quicksort": 32,
     "core::slice::sort::pivot::median_of_medians": 4,
-    "filter_asm::operands::operands_at": 10,
     "mkdemux_cores::settling::fault_of": 65,
     "mkdemux_cores::settling::take_all": 65,
     "mkdemux_cores::booting::put_all": 65,
