@@ -11,6 +11,9 @@ use filter_verify::Verified;
 use std::alloc::{AllocError, Global};
 use std::cmp::Ordering;
 
+/// So many programs before and after one are looked at for one of its shape.
+const NEAREST: usize = 8;
+
 /// How two programs are ordered: by the first instructions that differ in more than programs of one shape do, then by length, then by
 /// the first constants that differ.
 fn program_order(a: &[Insn], b: &[Insn]) -> Ordering
@@ -51,7 +54,8 @@ pub(crate) fn rank_of(placed: &Placements, order: &[u32], program: &[Insn]) -> u
     low
 }
 
-/// The place of a program of this one's shape, which is a neighbour of this one's rank if there is any.
+/// The place of a program of this one's shape, among the nearest to this one's rank.
+// Mostly it is a neighbour. Others that ask for another kind of packet may lie between.
 pub(crate) fn near_to(
     placed: &Placements,
     order: &[u32],
@@ -60,12 +64,17 @@ pub(crate) fn near_to(
 ) -> Option<usize>
     requires { IsOrder placed.now order.now }
 {
-    if rank > 0 {
-        if let Some(place) = alike_at(placed, order, rank - 1, program) {
+    for distance in 0..NEAREST {
+        if rank > distance {
+            if let Some(place) = alike_at(placed, order, rank - 1 - distance, program) {
+                return Some(place);
+            }
+        }
+        if let Some(place) = alike_at(placed, order, rank.saturating_add(distance), program) {
             return Some(place);
         }
     }
-    alike_at(placed, order, rank, program)
+    None
 }
 
 /// The place of the program of this rank, if it has this one's shape.

@@ -5,6 +5,7 @@ ghost use Rattle.std.specs.declared.cmp.Ordering.TheVariants.{Equal};
 ghost use Rattle.filter_group.specs.Order.{constant_alike, shape_cmp, shape_constant};
 ghost use Rattle.filter_group.specs.Together.{AreOneShape};
 
+use crate::kinds::differ_in_kind;
 use bpf_insn::{Form, Insn};
 use filter_verify::Verified;
 use std::cmp::Ordering;
@@ -47,13 +48,20 @@ pub(crate) fn is_alike(a: Insn, b: Insn) -> bool
     a.code == b.code && a.jt == b.jt && a.jf == b.jf && constant_of(a) == constant_of(b)
 }
 
-/// Whether two programs are of one shape: they load the same and end with verdict 0 at the same places, and differ at most in what they
-/// compare with and in their verdicts.
+/// Whether two programs are of one shape: they load the same and end with verdict 0 at the same places, differ at most in what they
+/// compare with and in their verdicts, and ask for one kind of packet.
 pub(crate) fn are_one_shape(a: &Verified, b: &Verified) -> bool
     ensures { IsTrue result → AreOneShape a.now b.now }
 {
     let code = a.code();
     let other = b.code();
+    are_alike(code, other) && !differ_in_kind(code, other)
+}
+
+/// Whether the instructions of two programs differ at most in what may differ in programs of one shape.
+fn are_alike(code: &[Insn], other: &[Insn]) -> bool
+    ensures { IsTrue result → AreOneShape code.now other.now }
+{
     if code.len() != other.len() {
         return false;
     }

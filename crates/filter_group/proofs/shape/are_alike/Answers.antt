@@ -1,10 +1,10 @@
-use Rattle.std.proofs.Common.{arith, ap, sym, subst, ◌∙◌, ◌≡◌, ◌<◌, ◌+◌, inl, inr, ℕ, List, length, get_or, Some, slice_get}
+use Rattle.std.proofs.Common.{arith, subst, ◌≡◌, ◌<◌, ◌+◌, inl, inr, ℕ, List, length, get_or, Some, slice_get}
 use Rattle.std.proofs.lemmas.Bool.{cases_lt}
 use Rattle.std.proofs.lemmas.Option.{slice_get-get_or, slice_get_within}
 use Rattle.bpf_insn.specs.declared.insn.Insn.{Insn}
 use Rattle.filter_group.proofs.MoreOrLess.{no_insn}
 use Rattle.filter_group.proofs.Sides.{one_thing}
-use Rattle.filter_group.proofs.shape.are_one_shape.Goals as goal
+use Rattle.filter_group.proofs.shape.are_alike.Goals as goal
 
 -- two instructions that differ at most in the constant
 abbrev Differ : Insn → Insn → Type 0
@@ -24,8 +24,8 @@ more p q place x y at_x at_y differ before pc a b low at_a at_b = elim (cases_lt
 
 pub loop-place-preserved : goal.loop-place-preserved
 loop-place-preserved c =
-    let p = c.code-code.result.now in
-    let q = c.code-other.result.now in
+    let p = c.args.code.now in
+    let q = c.args.other.now in
     let place = c.loop-place.place in
     let low : place < length p = let test = c.loop-place-test.true in let end = c.loop-place.auto.place-end in omega arith in
     let as_long : length p ≡ length q = c.if-code-other.false in
@@ -34,16 +34,12 @@ loop-place-preserved c =
 
 pub returns : goal.returns
 returns c = λ _.
-    let p = c.code-code.result.now in
-    let code : p ≡ c.args.a.now = c.code-code.ensures.code in
-    let other : c.code-other.result.now ≡ c.args.b.now = c.code-other.ensures.code in
-    let as_long : length p ≡ length c.code-other.result.now = c.if-code-other.false in
+    let p = c.args.code.now in
+    let as_long : length p ≡ length c.args.other.now = c.if-code-other.false in
     record {
-      lengths = sym (ap (length {A = Insn}) code) ∙ (as_long ∙ ap (length {A = Insn}) other);
+      lengths = as_long;
       same = λ pc a b at_a at_b.
-          let here : slice_get p pc ≡ Some a = subst (λ (xs : List Insn). slice_get xs pc ≡ Some a) (sym code) at_a in
-          let there = subst (λ (xs : List Insn). slice_get xs pc ≡ Some b) (sym other) at_b in
           let test = c.loop-place-test.false in
           let end = c.loop-place.auto.place-end in
-          c.loop-place.invariant pc a b (let low = slice_get_within p pc a here in omega arith) here there;
+          c.loop-place.invariant pc a b (let low = slice_get_within p pc a at_a in omega arith) at_a at_b;
     }
