@@ -3,6 +3,7 @@
 # same filters: alone, under a read-write lock, and over an array that is copied at each change.
 # Usage: bench/live.sh [-r ROUNDS] [-l FOLDER] [PART..]. Parts, by default all, in two minutes with 7 rounds:
 #   alone         processor time of a packet in one thread: 1, 16 and 1,000 filters
+#   shapes        processor time of a packet in one thread under 1,024 filters of ten shapes (shapes_peer.c), beside one filter
 #   packets       packets a second and thread: 16 and 1,000 filters, 0, 100 and 10,000 changes a second, 1 to 4 threads
 #   decide        from ask to decision
 #   asleep        the same where threads sleep until a turn names their core, and their processor time while nothing is asked
@@ -24,7 +25,7 @@ while getopts r:l: option; do
     esac
 done
 shift $((OPTIND - 1))
-[ $# -gt 0 ] || set -- alone packets decide asleep turns memory allocations
+[ $# -gt 0 ] || set -- alone shapes packets decide asleep turns memory allocations
 work=$(mktemp -d)
 trap 'rm -rf "$work"' EXIT
 cc=${CC:-cc}
@@ -43,6 +44,12 @@ alone() {
         $WRAP "$work/live_peer" alone $filters one 41
         $WRAP "$work/live_peer" alone $filters many 41
     done
+}
+
+shapes() {
+    $cc -std=c11 -D_GNU_SOURCE -O2 -w -I"$folder/include" -o "$work/shapes_peer" "$here/shapes_peer.c" $bpf \
+        "$folder/lib/libmkdemux_cores.a" -lpcap
+    $WRAP "$work/shapes_peer" "$rounds"
 }
 
 packets() {
@@ -91,7 +98,7 @@ allocations() {
 
 for part; do
     case $part in
-    alone | packets | decide | asleep | turns | memory | allocations) "$part" ;;
+    alone | shapes | packets | decide | asleep | turns | memory | allocations) "$part" ;;
     *) echo "live: there is no part $part" >&2; exit 2 ;;
     esac
 done
