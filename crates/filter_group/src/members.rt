@@ -173,9 +173,7 @@ impl Members {
     {
         let home = next_home(&self.chunks)?;
         let chunks = chunks_with(alloc, &self.chunks, home, program)?;
-        let mut homes = Vec::with_capacity(alloc, self.homes.len() + 1)?;
-        homes.extend_from_slice(&self.homes)?;
-        homes.insert(place, home)?;
+        let homes = homes_with(alloc, &self.homes, place, home)?;
         made(homes, chunks)
     }
 
@@ -256,6 +254,8 @@ fn chunks_copy(alloc: Global, chunks: &[Chunk]) -> Result<Vec<Chunk>, AllocError
 }
 
 /// The chunks once a program is put into one of them.
+// Not in line: what it needs of the stack is free again before the rest is made.
+#[inline(never)]
 fn chunks_with(
     alloc: Global,
     chunks: &[Chunk],
@@ -276,6 +276,7 @@ fn chunks_with(
 }
 
 /// The chunks once a program is taken out of one of them.
+#[inline(never)]
 fn chunks_without(alloc: Global, chunks: &[Chunk], old: Home) -> Result<Vec<Chunk>, AllocError>
     requires { (program : List AnyInsn) × (found_in chunks.now old ≡ Some program) }
     ensures { IfOk result (λ left. HasLess chunks.now left.items old) }
@@ -286,7 +287,25 @@ fn chunks_without(alloc: Global, chunks: &[Chunk], old: Home) -> Result<Vec<Chun
     Ok(left)
 }
 
+/// Where the programs lie, and one more, at this place.
+#[inline(never)]
+fn homes_with(
+    alloc: Global,
+    homes: &[Home],
+    place: usize,
+    home: Home,
+) -> Result<Vec<Home>, AllocError>
+    requires { place ≤ length homes.now }
+    ensures { IfOk result (λ more. more.items ≡ insert homes.now place home) }
+{
+    let mut more = Vec::with_capacity(alloc, homes.len() + 1)?;
+    more.extend_from_slice(homes)?;
+    more.insert(place, home)?;
+    Ok(more)
+}
+
 /// Where the programs lie once the one at a place is taken out: those after it in its chunk move down.
+#[inline(never)]
 fn homes_without(
     alloc: Global,
     homes: &[Home],

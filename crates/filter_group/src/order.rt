@@ -56,6 +56,7 @@ pub(crate) fn rank_of(placed: &Placements, order: &[u32], program: &[Insn]) -> u
 
 /// The place of a program of this one's shape, among the nearest to this one's rank.
 // Mostly it is a neighbour. Others that ask for another kind of packet may lie between.
+#[inline(never)]
 pub(crate) fn near_to(
     placed: &Placements,
     order: &[u32],
@@ -90,6 +91,8 @@ fn alike_at(placed: &Placements, order: &[u32], rank: usize, program: &Verified)
 }
 
 /// The order once a place is put into it.
+// Not in line: what it needs of the stack is free again before the deeper calls.
+#[inline(never)]
 pub(crate) fn order_with(
     alloc: Global,
     order: &[u32],
