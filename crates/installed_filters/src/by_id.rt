@@ -55,6 +55,15 @@ impl Rows {
         }
     }
 
+    /// Gives back all that they hold: no filter is left. Takes no memory.
+    // Not in line, so that what they held is on the stack no longer than this.
+    #[inline(never)]
+    pub(crate) fn clear(&mut self, alloc: Global)
+        ensures { self.new ≡ record { entries = []; ready = false } }
+    {
+        *self = Rows::new(alloc);
+    }
+
     /// How many there are.
     pub(crate) fn len(&self) -> usize
         ensures count { result ≡ length self.now.entries }

@@ -73,6 +73,19 @@ impl Filters {
         }
     }
 
+    /// Gives back all that they hold: there is no filter, and nothing is planned. Takes no memory.
+    // A part at a time, so that the stack has one of them at a time.
+    #[inline(never)]
+    pub fn clear(&mut self, alloc: Global)
+        ensures { self.new ≡ record { now = []; next = None } }
+    {
+        self.forget();
+        self.lists.clear(alloc);
+        self.rows.clear(alloc);
+        self.slots.clear(alloc);
+        self.reaches.clear(alloc);
+    }
+
     /// How many filters there are.
     pub fn len(&self) -> usize
         ensures { result ≡ length self.now.now }

@@ -7,6 +7,7 @@ use crate::numbered::Numbered;
 use filter_group::Shared;
 use std::alloc::{AllocError, Global};
 use std::marker::Model;
+use std::mem;
 
 /// The programs that a packet is run on, and the others.
 pub(crate) struct Lists {
@@ -37,6 +38,15 @@ impl Lists {
             running: Numbered::new(alloc),
             resting: Numbered::new(alloc),
         }
+    }
+
+    /// Gives back all that they hold: no program is left. Takes no memory.
+    pub(crate) fn clear(&mut self, alloc: Global)
+        ensures running { self.new.running ≡ record { programs = []; numbers = [] } }
+        ensures resting { self.new.resting ≡ record { programs = []; numbers = [] } }
+    {
+        self.running.clear(alloc);
+        self.resting.clear(alloc);
     }
 
     /// Makes others the lists once a new program runs. Without memory those are of no use any more.
@@ -76,10 +86,14 @@ pub(crate) struct NextLists {
 
 // By hand, so that the proofs of its owners have one call and not a drop of each part.
 impl Drop for NextLists {
-    // Not in line, so that its room on the stack isn't there while other lists are dropped.
+    // Not in line, so that its room on the stack isn't there while other lists are dropped. A box that is dropped has its content on
+    // the stack: so the lists are cleared where they lie, and what is forgotten holds no memory.
     #[inline(never)]
     fn drop(self) {
-        let NextLists { lists: _ } = self;
+        let NextLists { mut lists } = self;
+        let alloc = *Box::allocator(&lists);
+        lists.clear(alloc);
+        mem::forget(Box::into_inner(lists));
     }
 }
 
@@ -150,17 +164,18 @@ impl NextLists {
     pub(crate) fn follow(self, lists: &mut Lists)
         ensures { lists.new ≡ self }
     {
-        let NextLists { lists: next } = self;
-        *lists = Box::into_inner(next);
+        let NextLists { lists: mut next } = self;
+        mem::swap(lists, &mut *next);
+        drop(NextLists { lists: next });
     }
 
     /// The same lists, where a plan says on which programs a packet is run.
     pub(crate) fn planned(self, alloc: Global) -> Result<NextLists, AllocError>
         ensures { IfOk result (λ next. next ≡ self) }
     {
-        let NextLists { mut lists } = self;
-        lists.running.plan(alloc)?;
-        Ok(NextLists { lists })
+        let mut next = self;
+        next.lists.running.plan(alloc)?;
+        Ok(next)
     }
 
     /// A program that runs goes to rest. Those that run then have no plan.
@@ -175,9 +190,9 @@ impl NextLists {
         ensures running { IfOk result (λ lists. IsWithout self.running program.now lists.running) }
         ensures resting { IfOk result (λ lists. IsWith self.resting number program.now lists.resting) }
     {
-        let NextLists { mut lists } = self;
-        lists.rest(alloc, program, number)?;
-        Ok(NextLists { lists })
+        let mut next = self;
+        next.lists.rest(alloc, program, number)?;
+        Ok(next)
     }
 
     /// A program that runs goes. Those that run then have no plan.
@@ -186,9 +201,9 @@ impl NextLists {
         ensures running { IfOk result (λ lists. IsWithout self.running program.now lists.running) }
         ensures resting { IfOk result (λ lists. lists.resting ≡ self.resting) }
     {
-        let NextLists { mut lists } = self;
-        lists.running.take_out(alloc, program)?;
-        Ok(NextLists { lists })
+        let mut next = self;
+        next.lists.running.take_out(alloc, program)?;
+        Ok(next)
     }
 
     /// A program that rests goes.
@@ -197,8 +212,8 @@ impl NextLists {
         ensures running { IfOk result (λ lists. lists.running ≡ self.running) }
         ensures resting { IfOk result (λ lists. IsWithout self.resting program.now lists.resting) }
     {
-        let NextLists { mut lists } = self;
-        lists.resting.take_out(alloc, program)?;
-        Ok(NextLists { lists })
+        let mut next = self;
+        next.lists.resting.take_out(alloc, program)?;
+        Ok(next)
     }
 }

@@ -48,6 +48,15 @@ impl Numbered {
         }
     }
 
+    /// Gives back all that they hold: no program is left. Takes no memory.
+    // Not in line, so that the stack has one list of programs at a time.
+    #[inline(never)]
+    pub(crate) fn clear(&mut self, alloc: Global)
+        ensures { self.new ≡ record { programs = []; numbers = [] } }
+    {
+        *self = Numbered::new(alloc);
+    }
+
     /// How many there are.
     pub(crate) fn len(&self) -> usize
         ensures count { result ≡ length self.now.programs }
@@ -133,16 +142,11 @@ impl Numbered {
         Ok(())
     }
 
-    /// Makes a plan of which of the programs a packet is run on. Without memory none is left.
-    #[inline(never)]
+    /// Makes a plan of which of the programs a packet is run on. Without memory they stay without one.
     pub(crate) fn plan(&mut self, alloc: Global) -> Result<(), AllocError>
-        ensures { OnOk result (self.new ≡ self.old) }
+        ensures { self.new ≡ self.old }
     {
-        let programs = mem::replace(&mut self.programs, Programs::new(alloc));
-        let numbers = mem::replace(&mut self.numbers, Vec::new(alloc));
-        let programs = programs.planned(alloc)?;
-        *self = Numbered { programs, numbers };
-        Ok(())
+        self.programs.make_plan(alloc)
     }
 
     /// Runs all programs over a packet. Afterwards `lists.hits` has those that end with a verdict above 0, by their numbers. Takes memory

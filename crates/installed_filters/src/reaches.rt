@@ -57,6 +57,15 @@ impl Reaches {
         }
     }
 
+    /// Gives back all that they hold: no number is left. Takes no memory.
+    // Not in line, so that what they held is on the stack no longer than this.
+    #[inline(never)]
+    pub(crate) fn clear(&mut self, alloc: Global)
+        ensures { self.new ≡ record { ends = []; ready = false } }
+    {
+        *self = Reaches::new(alloc);
+    }
+
     /// How many numbers there are.
     pub(crate) fn len(&self) -> usize
         ensures { result ≡ length self.now.ends }

@@ -69,6 +69,15 @@ impl Slots {
         }
     }
 
+    /// Gives back all that they hold: no program is left. Takes no memory.
+    // Not in line, so that what they held is on the stack no longer than this.
+    #[inline(never)]
+    pub(crate) fn clear(&mut self, alloc: Global)
+        ensures { self.new ≡ record { slots = []; ready = false } }
+    {
+        *self = Slots::new(alloc);
+    }
+
     /// How many numbers there are.
     pub(crate) fn len(&self) -> usize
         ensures { result ≡ length self.now.slots }
