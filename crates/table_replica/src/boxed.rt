@@ -24,8 +24,16 @@ pub(crate) struct BoxedFilters {
 
 // By hand, so that the proofs of its owners have one call and not a drop of each part.
 impl Drop for BoxedFilters {
+    // Not in line, so that its room on the stack isn't there for the rest of a table. A box that is dropped has its content on the
+    // stack: so the filters are cleared where they lie, and what is forgotten holds no memory.
+    #[inline(never)]
     fn drop(self) {
-        let BoxedFilters { filters: _ } = self;
+        let BoxedFilters { filters } = self;
+        if let Some(mut filters) = filters {
+            let alloc = *Box::allocator(&filters);
+            filters.clear(alloc);
+            mem::forget(Box::into_inner(filters));
+        }
     }
 }
 

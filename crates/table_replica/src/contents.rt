@@ -113,6 +113,17 @@ impl Contents {
         }
     }
 
+    /// Gives back all that the table holds: nothing is held or listed, and nothing is staged. Takes no memory.
+    pub(crate) fn clear(&mut self, alloc: Global)
+        ensures { self.new ≡ record { table = record self.old.table { caps = record { held = []; next = self.old.table.caps.next }; filters = [] }; staged = None } }
+    {
+        self.plan = None;
+        self.filters = BoxedFilters::new();
+        self.shares = Shares::new();
+        self.instructions = 0;
+        clear_caps(alloc, &mut self.caps);
+    }
+
     pub(crate) fn limits(&self) -> Limits
         ensures { result ≡ self.now.table.limits }
     {
@@ -595,6 +606,15 @@ impl Contents {
     }
 }
 
+/// Gives back all that capabilities hold: none is held.
+// Not in line, so that what they held is on the stack no longer than this.
+#[inline(never)]
+fn clear_caps(alloc: Global, caps: &mut Caps)
+    ensures { caps.new.table ≡ record { held = []; next = caps.old.table.next } }
+{
+    *caps = Caps::resume(alloc, caps.next());
+}
+
 /// The program that an operation brings, verified.
 #[inline(never)]
 fn verified(alloc: Global, op: &Op) -> Result<Option<Verified>, StageFault>
@@ -625,6 +645,8 @@ fn accepted(alloc: Global, code: &[Insn]) -> Result<Verified, StageFault>
 }
 
 /// Whether the program that an operation brings is accepted, memory aside. Takes no memory.
+// Not in line, so that the room of the verifier isn't there while an operation is staged.
+#[inline(never)]
 fn program_accepted(op: &Op) -> Result<(), StageFault>
     ensures ok { OnOk result (Verifies (program_of op.now) None) }
     ensures err { IfErr result (RefusesAs (program_of op.now)) }

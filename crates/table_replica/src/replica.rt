@@ -105,6 +105,17 @@ impl Replica {
         Ok(Replica { budget, contents })
     }
 
+    /// Gives back all that the replica holds: nothing is held or listed, and nothing is staged. Takes no memory.
+    // So that who owns it on the heap can drop it where it lies: a box that is dropped has its content on the stack.
+    #[tactic(auto, using(filter_table::proofs::Soundness::sound_empty))]
+    pub fn clear(&mut self, alloc: Global)
+        ensures shown { self.new.shown ≡ record self.old.shown { caps = record { held = []; next = self.old.shown.caps.next }; filters = [] } }
+        ensures none_staged { self.new.staged ≡ None }
+        ensures budget { self.new.budget ≡ self.old.budget }
+    {
+        self.contents.clear(alloc);
+    }
+
     /// The version of the table.
     pub fn version(&self) -> u64
         ensures { result ≡ self.now.shown.version }
