@@ -11,3 +11,4 @@ pub mod Keeping
 pub mod Numbering
 pub mod Slotting
 pub mod Lent
+pub mod Receiving

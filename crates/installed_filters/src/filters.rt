@@ -8,6 +8,7 @@ ghost use Rattle.installed_filters.specs.Installed.{Installed, AreHeldBy, lapsed
 ghost use Rattle.std.specs.Prelude.{List, map};
 ghost use Rattle.endpoint_caps.specs.declared.Cap.{Cap as AnyCap};
 ghost use Rattle.filter_table.specs.Tables.{AreReceivers};
+ghost use Rattle.installed_filters.specs.Receiving.{kept_by};
 
 use crate::books::Row;
 use crate::by_id::Rows;
@@ -17,7 +18,7 @@ use crate::lapsing::lists_lapsed;
 use crate::leaving::{lists_swapped, lists_without};
 use crate::lists::Lists;
 use crate::reaches::Reaches;
-use crate::receiving::Workspace;
+use crate::receiving::{Receivers, Workspace};
 use crate::slots::{Slot, Slots};
 use chunked::Sorted;
 use filter_group::Shared;
@@ -236,6 +237,30 @@ impl Filters {
         self.change = None;
     }
 
+    /// The endpoints that get a packet, in increasing order, each with the number of bytes that it keeps. If they are listed, then in
+    /// place of what the workspace kept. Takes memory only where the workspace was never as long as the packet needs.
+    #[inline(always)]
+    pub fn receivers(
+        &self,
+        workspace: &mut Workspace,
+        bytes: &[u8],
+        original: u32,
+    ) -> Result<Receivers, AllocError>
+        ensures { IfOk result (λ found. (caps : List AnyCap) → AreHeldBy caps self.now.now → AreReceivers caps (map (λ f. f.filter) self.now.now) (record { bytes = bytes.now; original = original }) (kept_by found workspace.new.kept.items)) }
+    {
+        let _count = self.rows.len();
+        self.lists
+            .running
+            .run(&mut workspace.lists, bytes, original)?;
+        let found = self.reaches.receive(
+            &workspace.lists.hits,
+            bytes.len(),
+            &mut workspace.verdicts,
+            &mut workspace.kept,
+        )?;
+        Ok(found)
+    }
+
     /// The endpoints that get a packet, in increasing order, each with the number of bytes that it keeps, in place of what the workspace
     /// kept. Takes memory only where the workspace was never as long as the packet needs.
     #[inline(always)]
@@ -247,17 +272,8 @@ impl Filters {
     ) -> Result<(), AllocError>
         ensures { OnOk result ((caps : List AnyCap) → AreHeldBy caps self.now.now → AreReceivers caps (map (λ f. f.filter) self.now.now) (record { bytes = bytes.now; original = original }) workspace.new.kept.items) }
     {
-        let _count = self.rows.len();
-        self.lists
-            .running
-            .run(&mut workspace.lists, bytes, original)?;
-        self.reaches.receive(
-            &workspace.lists.hits,
-            bytes.len(),
-            &mut workspace.verdicts,
-            &mut workspace.kept,
-        )?;
-        Ok(())
+        let found = self.receivers(workspace, bytes, original)?;
+        workspace.list(found)
     }
 }
 

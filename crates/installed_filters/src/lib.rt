@@ -19,4 +19,4 @@ mod slots;
 
 pub use filters::Filters;
 pub use queries::{Filter, InstalledIter};
-pub use receiving::Workspace;
+pub use receiving::{Receivers, Workspace};

@@ -1,13 +1,15 @@
 //! Which endpoints get what the programs with which numbers accept.
-ghost use Rattle.std.specs.Prelude.{◌≡◌, ◌==◌, ◌&&◌, ◌+◌, ◌-◌, ◌<◌, ◌≤◌, ◌++◌, ℕ, List, [], ◌∷◌, Some, false, if◌then◌else◌, is_some, length, slice_get, take, replicate, min, OnOk, OnErr};
+ghost use Rattle.std.specs.Prelude.{◌≡◌, ◌==◌, ◌&&◌, ◌+◌, ◌-◌, ◌<◌, ◌≤◌, ◌++◌, ℕ, List, [], ◌∷◌, Some, false, if◌then◌else◌, is_some, length, slice_get, take, replicate, IfOk, OnOk, OnErr};
 ghost use Rattle.std.specs.List.{All};
 ghost use Rattle.chunked.specs.Maps.{SortedMap, value_at};
 ghost use Rattle.filter_group.specs.declared.lockstep.Hit.{Hit as AnyHit};
 ghost use Rattle.installed_filters.specs.Counts.{counted, number_of, no_counts, reach_at, reach_key, HasRoom, HasRoomFor, AreWithin, AreIndexed, AreReachKeys, ends_at};
-ghost use Rattle.installed_filters.specs.Keeping.{at_endpoint, AreKept, AreApart, GetsBy, GetsNoted, AreNoted};
+ghost use Rattle.installed_filters.specs.Receiving.{kept_by};
+ghost use Rattle.installed_filters.specs.Keeping.{AreKept, AreApart, GetsBy, GetsNoted, AreNoted};
 
 use crate::endpoints::Endpoints;
 use crate::raising::raise;
+use crate::receiving::Receivers;
 use chunked::Sorted;
 use filter_group::Hit;
 use filter_table::Kept;
@@ -139,8 +141,9 @@ impl Reaches {
         }
     }
 
-    /// The endpoints that get a packet that these programs pass, in increasing order, in place of what `kept` had: each keeps as much as
-    /// the greatest verdict says, and at most what was captured. Takes memory only where the lists are too short for the packet.
+    /// The endpoints that get a packet that these programs pass, in increasing order: each keeps as much as the greatest verdict says, and
+    /// at most what was captured. If they are listed, then in place of what `kept` had. Takes memory only where the lists are too short for
+    /// the packet.
     #[inline(always)]
     pub(crate) fn receive(
         &self,
@@ -148,20 +151,17 @@ impl Reaches {
         captured: usize,
         verdicts: &mut Vec<u32>,
         kept: &mut Vec<Kept>,
-    ) -> Result<(), AllocError>
+    ) -> Result<Receivers, AllocError>
         requires inside { AreWithin self.now.ends hits.now }
         requires apart { AreApart hits.now }
-        ensures { OnOk result (AreKept (GetsBy self.now.ends hits.now) captured kept.new.items) }
+        ensures { IfOk result (λ found. AreKept (GetsBy self.now.ends hits.now) captured (kept_by found kept.new.items)) }
     {
         match hits {
-            [] => {
-                kept.clear();
-                Ok(())
-            }
+            [] => Ok(Receivers::Nobody),
             [hit] => match self.ends[hit.member].only() {
                 Some(endpoint) => {
-                    keep_only(endpoint, hit.verdict, captured, kept)?;
-                    Ok(())
+                    let kept = (hit.verdict as usize).min(captured) as u32;
+                    Ok(Receivers::One(Kept { endpoint, kept }))
                 }
                 None => self.receive_by_several(hits, captured, verdicts, kept),
             },
@@ -178,35 +178,18 @@ impl Reaches {
         captured: usize,
         verdicts: &mut Vec<u32>,
         kept: &mut Vec<Kept>,
-    ) -> Result<(), AllocError>
+    ) -> Result<Receivers, AllocError>
         requires inside { AreWithin self.now.ends hits.now }
         requires apart { AreApart hits.now }
-        ensures { OnOk result (AreKept (GetsBy self.now.ends hits.now) captured kept.new.items) }
+        ensures { IfOk result (λ found. AreKept (GetsBy self.now.ends hits.now) captured (kept_by found kept.new.items)) }
     {
         if have_few(&self.ends, hits) {
-            keep_few(&self.ends, hits, captured, kept)
+            keep_few(&self.ends, hits, captured, kept)?;
         } else {
-            keep_many(&self.ends, &self.order, hits, captured, verdicts, kept)
+            keep_many(&self.ends, &self.order, hits, captured, verdicts, kept)?;
         }
+        Ok(Receivers::Listed)
     }
-}
-
-/// The one endpoint that gets a packet, and what it keeps.
-fn keep_only(
-    endpoint: u16,
-    verdict: u32,
-    captured: usize,
-    kept: &mut Vec<Kept>,
-) -> Result<(), AllocError>
-    ensures { OnOk result (kept.new.items ≡ at_endpoint endpoint (min verdict captured) ∷ []) }
-{
-    let most = (verdict as usize).min(captured) as u32;
-    kept.clear();
-    kept.push(Kept {
-        endpoint,
-        kept: most,
-    })?;
-    Ok(())
 }
 
 /// An endpoint of a number, as one number, so that they are in order of endpoint.

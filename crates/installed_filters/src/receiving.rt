@@ -1,15 +1,25 @@
 //! What is used again from packet to packet.
-ghost use Rattle.std.specs.Prelude.{◌≡◌, []};
+ghost use Rattle.std.specs.Prelude.{◌≡◌, [], OnOk};
+ghost use Rattle.installed_filters.specs.Receiving.{kept_by};
 
 use filter_group::Lists;
 use filter_table::Kept;
-use std::alloc::Global;
+use std::alloc::{AllocError, Global};
+
+/// The endpoints that get a packet. Most packets have one or none: these are told with no list, so that they stay in registers.
+#[derive(Clone, Copy)]
+pub enum Receivers {
+    Nobody,
+    One(Kept),
+    /// Those that the workspace has.
+    Listed,
+}
 
 /// Lists that are used again from packet to packet, so that a receipt takes no memory once they are long enough.
 pub struct Workspace {
     pub(crate) lists: Lists,
     pub(crate) verdicts: Vec<u32>,
-    /// The endpoints that get the packet, once it is received.
+    /// The endpoints that get the packet, once it is received and they are listed.
     pub kept: Vec<Kept>,
 }
 
@@ -34,6 +44,21 @@ impl Workspace {
             verdicts: Vec::new(alloc),
             kept: Vec::new(alloc),
         }
+    }
+
+    /// Puts the endpoints that were told of a packet into the list. Takes memory only where the list was never as long.
+    pub fn list(&mut self, found: Receivers) -> Result<(), AllocError>
+        ensures { OnOk result (self.new.kept.items ≡ kept_by found self.old.kept.items) }
+    {
+        match found {
+            Receivers::Nobody => self.kept.clear(),
+            Receivers::One(kept) => {
+                self.kept.clear();
+                self.kept.push(kept)?;
+            }
+            Receivers::Listed => {}
+        }
+        Ok(())
     }
 
     /// The endpoints that get the packet.

@@ -1,17 +1,18 @@
 //! The filters of a table on the heap.
-ghost use Rattle.std.specs.Prelude.{◌≡◌, ◌==◌, ◌<◌, ◌++◌, [], ◌∷◌, ℕ, None, Some, IsSome, true, not, filter, map, length, List, OnOk, OnErr, MatchOption};
+ghost use Rattle.std.specs.Prelude.{◌≡◌, ◌==◌, ◌<◌, ◌++◌, [], ◌∷◌, ℕ, None, Some, IsSome, true, not, filter, map, length, List, IfOk, OnOk, OnErr, MatchOption};
 ghost use Rattle.std.specs.Iterator.{YieldsFirstBy, item_count};
 ghost use Rattle.std.specs.List.{Contains};
 ghost use Rattle.std.specs.Option.{option_map};
 ghost use Rattle.endpoint_caps.specs.declared.Cap.{Cap as AnyCap};
 ghost use Rattle.filter_table.specs.Tables.{filter_at, AreReceivers};
 ghost use Rattle.installed_filters.specs.Installed.{AreHeldBy, Installed, replaced_by};
+ghost use Rattle.installed_filters.specs.Receiving.{kept_by};
 ghost use Rattle.installed_filters.specs.Lent.{AreDifferent, held_listed, listed, shown_filter};
 ghost use Rattle.table_replica.specs.Boxed.{standing_in, IsLapse};
 
 use chunked::Sorted;
 use filter_verify::Verified;
-use installed_filters::{Filter, Filters, InstalledIter, Workspace};
+use installed_filters::{Filter, Filters, InstalledIter, Receivers, Workspace};
 use std::alloc::{AllocError, Global};
 use std::marker::Model;
 use std::mem;
@@ -103,6 +104,24 @@ impl BoxedFilters {
         match &self.filters {
             Some(filters) => filters.running_programs(),
             None => 0,
+        }
+    }
+
+    /// The endpoints that get a packet, in increasing order, each with the number of bytes that it keeps. If they are listed, then in
+    /// place of what the workspace kept.
+    // In line, so that a packet that meets no filter costs no call.
+    #[inline(always)]
+    pub(crate) fn receivers(
+        &self,
+        workspace: &mut Workspace,
+        bytes: &[u8],
+        original: u32,
+    ) -> Result<Receivers, AllocError>
+        ensures { IfOk result (λ found. (caps : List AnyCap) → AreHeldBy caps self.now.now → AreReceivers caps (listed self.now.now) (record { bytes = bytes.now; original = original }) (kept_by found workspace.new.kept.items)) }
+    {
+        match &self.filters {
+            Some(filters) => filters.receivers(workspace, bytes, original),
+            None => Ok(Receivers::Nobody),
         }
     }
 

@@ -16,7 +16,7 @@ pub use bpf_insn::Insn;
 use contents::Contents;
 pub use filter_table::{Kept, Limits, Load, Made, Op, OpFault, Program, StageFault};
 pub use filter_verify::Code;
-pub use installed_filters::{Filter, Workspace};
+pub use installed_filters::{Filter, Receivers, Workspace};
 pub use replica::Replica;
 use thiserror::Error;
 

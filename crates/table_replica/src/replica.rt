@@ -5,11 +5,13 @@ ghost use Rattle.table_replica.specs.Lent.{AreDifferent, held_filters};
 ghost use Rattle.filter_table.specs.Limits.{default_limits};
 ghost use Rattle.filter_table.specs.Loading.{load_op};
 ghost use Rattle.filter_table.specs.Staging.{CannotStage};
+ghost use Rattle.installed_filters.specs.Receiving.{kept_by};
 ghost use Rattle.filter_table.specs.Soundness.{IsSoundTable, IdsGrow};
 ghost use Rattle.filter_table.specs.declared.operation.Op.{Op as GhostOp};
 
 use crate::{
-    Code, Contents, FilterIter, Kept, Limits, Load, Made, NothingStaged, Op, StageFault, Workspace,
+    Code, Contents, FilterIter, Kept, Limits, Load, Made, NothingStaged, Op, Receivers, StageFault,
+    Workspace,
 };
 use endpoint_caps::Caps;
 use std::alloc::{AllocError, Global};
@@ -197,6 +199,22 @@ impl Replica {
         let mut workspace = Workspace::new(alloc);
         self.accepting_with(&mut workspace, bytes, original)?;
         Ok(workspace.into_kept())
+    }
+
+    /// The same, told in short: if they are listed, then in place of what the workspace kept. Takes memory only where the workspace was
+    /// never as long as the packet needs.
+    #[inline(always)]
+    pub fn receivers(
+        &self,
+        workspace: &mut Workspace,
+        bytes: &[u8],
+        original: u32,
+    ) -> Result<Receivers, AllocError>
+        ensures { IfOk result (λ found. Accepting self.now.shown (record { bytes = bytes.now; original = original }) (kept_by found workspace.new.kept.items)) }
+    {
+        self.contents
+            .filters()
+            .receivers(workspace, bytes, original)
     }
 
     /// The same, in place of what the workspace kept. Takes memory only where the workspace was never as long as the packet needs.

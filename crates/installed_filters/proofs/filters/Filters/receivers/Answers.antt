@@ -5,8 +5,9 @@ use Rattle.filter_table.specs.Tables.{AreReceivers}
 use Rattle.installed_filters.specs.Counts.{AreWithin}
 use Rattle.installed_filters.specs.Keeping.{AreApart, AreKept, GetsBy}
 use Rattle.installed_filters.specs.Installed.{AreHeldBy, Installed, Standing}
+use Rattle.installed_filters.specs.Receiving.{kept_by}
 use Rattle.installed_filters.proofs.Received.{hits_apart, hits_within, received}
-use Rattle.installed_filters.proofs.filters.Filters.accepting_with.Goals as goal
+use Rattle.installed_filters.proofs.filters.Filters.receivers.Goals as goal
 
 pub receive-requires-clause-inside : goal.receive-requires-clause-inside
 receive-requires-clause-inside c =
@@ -24,6 +25,7 @@ pub returns : goal.returns
 returns c = λ caps.
     let packet : Packet = record { bytes = c.args.bytes.now; original = c.args.original } in
     let ends = c.self.inside.reaches.ends in
-    let h = subst (λ (hs : List Hit). AreKept (GetsBy ends hs) (length c.args.bytes.now) c.receive.new.kept.items) c.deref.ensures.value c.in_ok-receive.ensures in
-    subst (λ (fs : List Installed). AreHeldBy caps fs → AreReceivers caps (map (λ f. f.filter) fs) packet c.receive.new.kept.items) (ap (λ (s : Standing). s.now) c.self.view_is)
-    (λ held. received c.self.inside.rows.entries c.self.inside.slots.slots ends c.self.inside.lists c.self.invariant.0 packet c.run.new.lists.hits.items c.in_ok-run.ensures caps held c.receive.new.kept.items h)
+    let kept = kept_by c.in_ok-found.found c.receive.new.kept.items in
+    let h = subst (λ (hs : List Hit). AreKept (GetsBy ends hs) (length c.args.bytes.now) kept) c.deref.ensures.value c.in_ok-found.ensures in
+    subst (λ (fs : List Installed). AreHeldBy caps fs → AreReceivers caps (map (λ f. f.filter) fs) packet kept) (ap (λ (s : Standing). s.now) c.self.view_is)
+    (λ held. received c.self.inside.rows.entries c.self.inside.slots.slots ends c.self.inside.lists c.self.invariant.0 packet c.run.new.lists.hits.items c.in_ok-run.ensures caps held kept h)
