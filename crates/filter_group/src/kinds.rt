@@ -1,7 +1,8 @@
 //! The tests with which a program asks first of what kind a packet is.
 //!
-//! Programs that ask for different kinds share no group: a packet would search the constants of kinds that it is not of, and one that asks
-//! for a kind of its own would lie among the others and part their runs.
+//! Programs that ask for different kinds share no group, where one of the kinds is common: a packet would search the constants of kinds
+//! that it is not of, and a program that asks for a kind of its own would lie among the others and part their runs. Programs that ask for
+//! other kinds do share groups, so that there are few groups of one shape, however many kinds are asked for.
 
 use bpf_insn::{Form, Insn, Size, Test};
 
@@ -66,6 +67,22 @@ fn is_protocol(place: u32) -> bool {
     false
 }
 
+/// Whether many programs ask for an Ethernet type or a protocol over IP of this number.
+fn is_common(kind: u32) -> bool {
+    match kind {
+        // IPv4, ARP, RARP, IPv6, and tags of a VLAN.
+        0x0800 | 0x0806 | 0x8035 | 0x86dd | 0x8100 | 0x88a8 | 0x9100 => true,
+        // ICMP, TCP, UDP, a fragment of IPv6, ICMPv6, and SCTP.
+        1 | 6 | 17 | 44 | 58 | 132 => true,
+        _ => false,
+    }
+}
+
+/// Whether two kinds differ, and one of them is common.
+fn are_apart(kind: u32, other: u32) -> bool {
+    kind != other && (is_common(kind) || is_common(other))
+}
+
 /// Whether a program loads a part of the packet at a place.
 fn loads_at(code: &[Insn], place: usize) -> bool {
     if place >= code.len() {
@@ -97,7 +114,7 @@ pub(crate) fn differ_in_kind(code: &[Insn], other: &[Insn]) -> bool {
             ) = form
             {
                 let held = place + 1 + usize::from(jt);
-                if k != other[place].k && loads_at(code, held) {
+                if are_apart(k, other[place].k) && loads_at(code, held) {
                     return true;
                 }
                 reached.add(held);
