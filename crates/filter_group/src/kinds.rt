@@ -96,6 +96,8 @@ fn loads_at(code: &[Insn], place: usize) -> bool {
 
 /// Whether two programs, whose instructions differ at most in constants of jumps and returns, ask for different kinds of packet. A test counts
 /// if more is loaded where it holds: programs that test nothing but the kind differ in it as others do in a port.
+// Not in line: what it needs of the stack is free again before the deeper calls.
+#[inline(never)]
 pub(crate) fn differ_in_kind(code: &[Insn], other: &[Insn]) -> bool {
     let mut reached = Reached::first();
     for place in 0..code.len().min(other.len()).min(FIRST_PLACES) {

@@ -1,4 +1,4 @@
-use Rattle.std.proofs.Common.{◌+◌, arith, length, map, sym, subst, refl}
+use Rattle.std.proofs.Common.{arith, length, map, sym, subst, refl}
 use Rattle.std.proofs.lemmas.Option.{slice_get_read}
 use Rattle.bpf_insn.specs.Machine.{Packet}
 use Rattle.filter_group.specs.Places.{HitsSoFar, program_at}
