@@ -56,6 +56,7 @@ pub(crate) fn rank_of(placed: &Placements, order: &[u32], program: &[Insn]) -> u
 
 /// The place of a program of this one's shape, among the nearest to this one's rank.
 // Mostly it is a neighbour. Others that ask for another kind of packet may lie between.
+// Not in line: what it needs of the stack is free again before the deeper calls.
 #[inline(never)]
 pub(crate) fn near_to(
     placed: &Placements,
