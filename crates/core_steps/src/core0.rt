@@ -16,6 +16,7 @@ use crate::outgoing::Outgoing;
 use filter_table::{Limits, Op, StageFault};
 use monitor_2pc::{Coordinator, Decision, MOST_CORES, Message, Say, Step, Stranger, Vote, veto_of};
 use std::alloc::{AllocError, Global};
+use std::mem;
 use table_replica::Replica;
 use world_events::Answer;
 
@@ -61,6 +62,17 @@ impl Core0 {
             replica,
             coordinator,
         })
+    }
+
+    /// Gives up a core whose replica was cleared.
+    // What is forgotten holds no memory, and so it isn't moved to be dropped.
+    #[inline(always)]
+    pub fn drop_cleared(self) {
+        let Core0 {
+            replica,
+            coordinator: _,
+        } = self;
+        mem::forget(replica);
     }
 
     /// Stages a request of its own, and answers why it can't, if it can't. `begin` or `withdraw` comes next.

@@ -17,6 +17,7 @@ use crate::unread::{Ballot, Unread, unread_ballot};
 use filter_table::Limits;
 use monitor_2pc::{Decision, Message, Participant, Stranger, Vote};
 use std::alloc::{AllocError, Global};
+use std::mem;
 use table_replica::Replica;
 use world_events::Answer;
 
@@ -51,6 +52,17 @@ impl OtherCore {
             replica,
             participant: Participant::new(0),
         })
+    }
+
+    /// Gives up a core whose replica was cleared.
+    // What is forgotten holds no memory, and so it isn't moved to be dropped.
+    #[inline(always)]
+    pub fn drop_cleared(self) {
+        let OtherCore {
+            replica,
+            participant: _,
+        } = self;
+        mem::forget(replica);
     }
 
     /// Submits a request to core 0, while none is outstanding. Submit is sent with it. Takes no memory.
