@@ -72,6 +72,8 @@ impl Model for Members {
 
 impl Chunk {
     /// One program alone.
+    // Not in line, so that its room on the stack isn't there while the other chunks get an owner more.
+    #[inline(never)]
     fn one(alloc: Global, program: &Shared) -> Result<Chunk, AllocError>
         ensures { IfOk result (λ chunk. chunk ≡ program.now ∷ []) }
     {
@@ -106,6 +108,7 @@ impl Chunk {
     }
 
     /// The programs and one more, last.
+    #[inline(never)]
     fn with(&self, alloc: Global, program: &Shared) -> Result<Chunk, AllocError>
         ensures { IfOk result (λ chunk. chunk ≡ self.now ++ program.now ∷ []) }
     {
@@ -116,6 +119,7 @@ impl Chunk {
     }
 
     /// The programs but the one at a place.
+    #[inline(never)]
     fn without(&self, alloc: Global, place: usize) -> Result<Chunk, AllocError>
         requires { place < length self.now }
         ensures { IfOk result (λ chunk. chunk ≡ remove self.now place) }
