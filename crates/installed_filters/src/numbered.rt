@@ -3,7 +3,7 @@ ghost use Rattle.std.specs.Prelude.{◌≡◌, ◌<◌, ◌^◌, ◌↔◌, ◌�
 ghost use Rattle.filter_group.specs.declared.lockstep.Hit.{Hit as AnyHit};
 ghost use Rattle.bpf_insn.specs.declared.insn.Insn.{Insn as AnyInsn};
 ghost use Rattle.std.specs.Prelude.{List};
-ghost use Rattle.installed_filters.specs.Numbering.{Has, IsFresh, AreHitsBy, AreDistinct, numbered_hit};
+ghost use Rattle.installed_filters.specs.Numbering.{AreNumbered, Has, IsFresh, AreHitsBy, AreDistinct, numbered_hit};
 
 use filter_group::{Hit, Lists, Programs, Shared};
 use std::alloc::{AllocError, Global};
@@ -90,6 +90,16 @@ impl Numbered {
         Ok(())
     }
 
+    /// Puts these in place of what there is.
+    // Not in line, so that what goes has no room on the stack while others are made.
+    #[inline(never)]
+    fn put(&mut self, programs: Programs, numbers: Vec<u32>)
+        requires { AreNumbered (record { programs = programs; numbers = numbers.items }) }
+        ensures { self.new ≡ record { programs = programs; numbers = numbers.items } }
+    {
+        *self = Numbered { programs, numbers };
+    }
+
     /// Makes others these programs and one more, with a number of its own. Without memory they stay.
     #[inline(never)]
     pub(crate) fn with_into(
@@ -104,7 +114,7 @@ impl Numbered {
     {
         let numbers = numbers_with(alloc, &self.numbers, number)?;
         let programs = self.programs.with(alloc, program)?;
-        *more = Numbered { programs, numbers };
+        more.put(programs, numbers);
         Ok(())
     }
 
@@ -121,7 +131,7 @@ impl Numbered {
     {
         let numbers = numbers_with(alloc, &self.numbers, number)?;
         let programs = self.programs.with(alloc, program)?;
-        *self = Numbered { programs, numbers };
+        self.put(programs, numbers);
         Ok(())
     }
 

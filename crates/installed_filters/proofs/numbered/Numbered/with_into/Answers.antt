@@ -4,8 +4,8 @@ use Rattle.installed_filters.specs.Numbering.{AreNumbered, Has, IsFresh, Numberi
 use Rattle.installed_filters.proofs.Numbers.{has_with, numbered_more}
 use Rattle.installed_filters.proofs.numbered.Numbered.with_into.Goals as goal
 
-pub invariant_of-drop : goal.invariant_of-drop
-invariant_of-drop c =
+pub put-requires : goal.put-requires
+put-requires c =
     let programs = c.self.inside.programs in
     let before = c.self.inside.numbers.items in
     let numbers : c.in_ok-numbers.numbers.items ≡ before ++ c.args.number ∷ [] =
@@ -24,5 +24,6 @@ returns c = λ other listed.
     let is : after ≡ record { programs = before.programs ++ c.args.program.now ∷ []; numbers = before.numbers ++ c.args.number ∷ [] } =
     ap (λ (ps : List (List Insn)). record { programs = ps; numbers = c.in_ok-numbers.numbers.items }) c.in_ok-programs.ensures
     ∙ ap (λ (ns : List ℕ). record { programs = before.programs ++ c.args.program.now ∷ []; numbers = ns }) numbers in
-    subst (λ (n : Numbering). Has after other listed ↔ (Has n other listed ⊎ ((other ≡ c.args.number) × (listed ≡ c.args.program.now)))) c.self.view_is
-    (has_with before after c.args.number c.args.program.now c.self.invariant.lengths is other listed)
+    let with = has_with before after c.args.number c.args.program.now c.self.invariant.lengths is other listed in
+    let put = subst (λ (n : Numbering). Has n other listed ↔ (Has before other listed ⊎ ((other ≡ c.args.number) × (listed ≡ c.args.program.now)))) (sym c.put.ensures) with in
+    subst (λ (n : Numbering). Has c.put.new.self other listed ↔ (Has n other listed ⊎ ((other ≡ c.args.number) × (listed ≡ c.args.program.now)))) c.self.view_is put
