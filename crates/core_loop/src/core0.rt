@@ -124,7 +124,8 @@ fn ready_take<L: Links>(
 }
 
 /// Starts the first of its own requests. Core 0 is idle, and the links to its others take messages.
-#[inline(always)]
+// Not in line, so that what is taken instead has no room of it on the stack.
+#[inline(never)]
 pub(crate) fn start<L: Links>(
     core: &mut Core0,
     links: &mut L,
@@ -200,7 +201,7 @@ fn ready_start(
 }
 
 /// Starts the request that a core has waiting. Core 0 is idle, and the links to its others take messages.
-#[inline(always)]
+#[inline(never)]
 pub(crate) fn start_for<L: Links>(
     core: &mut Core0,
     links: &mut L,

@@ -126,8 +126,8 @@ pub(crate) fn take<L: Links>(
 }
 
 /// Takes the first message that is kept of a peer, which has one, where the links that its answer needs take messages.
-// In line, as what is begun instead: so each has the room of the other on the stack.
-#[inline(always)]
+// Not in line, as what is begun instead: so neither has the room of the other on the stack.
+#[inline(never)]
 pub(crate) fn take_kept<L: Links>(
     part: &mut Part,
     links: &mut L,

@@ -26,6 +26,23 @@ impl Part {
             Part::OtherCore(core) => &core.replica,
         }
     }
+
+    /// Gives back what the replica holds.
+    fn clear(&mut self, alloc: Global) {
+        match self {
+            Part::Core0(core) => core.replica.clear(alloc),
+            Part::OtherCore(core) => core.replica.clear(alloc),
+        }
+    }
+
+    /// Gives up a part whose replica holds no memory.
+    #[inline(always)]
+    fn drop_cleared(self) {
+        match self {
+            Part::Core0(core) => core.drop_cleared(),
+            Part::OtherCore(core) => core.drop_cleared(),
+        }
+    }
 }
 
 /// A core's part on the heap, so that a core is small and its moves take little of the stack.
@@ -35,8 +52,14 @@ pub(crate) struct BoxedPart {
 
 // By hand, so that the proofs of its owners have one call and not a drop of each part.
 impl Drop for BoxedPart {
+    // Not in line, so that its room on the stack isn't there for the rest of a core. A box that is dropped has its content on the
+    // stack: so the replica, which is most of it, is cleared where it lies.
+    #[inline(never)]
     fn drop(self) {
-        let BoxedPart { inner: _ } = self;
+        let BoxedPart { mut inner } = self;
+        let alloc = *Box::allocator(&inner);
+        inner.clear(alloc);
+        Box::into_inner(inner).drop_cleared();
     }
 }
 
@@ -133,7 +156,7 @@ impl BoxedPart {
         }
     }
 
-    /// This part.
+    /// This part, whose replica holds no memory yet.
     // In line, so that the part isn't copied on the stack once more.
     #[inline(always)]
     fn of(alloc: Global, part: Part) -> Result<BoxedPart, AllocError>
@@ -141,7 +164,10 @@ impl BoxedPart {
     {
         match Box::new(alloc, part) {
             Ok(inner) => Ok(BoxedPart { inner }),
-            Err(_) => Err(AllocError),
+            Err(refused) => {
+                refused.value.drop_cleared();
+                Err(AllocError)
+            }
         }
     }
 

@@ -47,7 +47,7 @@ impl<L: Links> Drop for Core<L> {
             alloc: _,
             number: _,
             cores: _,
-            links: _,
+            links,
             part: _,
             clock: _,
             requests: _,
@@ -58,7 +58,14 @@ impl<L: Links> Drop for Core<L> {
             workspace: _,
             stopped: _,
         } = self;
+        drop_links(links);
     }
+}
+
+// Drops links. Not in line, so that their room on the stack isn't there while the part is dropped.
+#[inline(never)]
+fn drop_links<L: Links>(links: L) {
+    drop(links);
 }
 
 impl<L: Links> Model for Core<L> {
