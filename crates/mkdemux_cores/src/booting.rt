@@ -165,8 +165,9 @@ fn boxed(
     Ok(boxes)
 }
 
-/// A core in a block of its own. Not in line, so that the stack has one core at a time.
-#[inline(never)]
+/// A core in a block of its own.
+// In line, so that the core isn't copied on the stack once more.
+#[inline(always)]
 fn block_of(alloc: Global, core: Core<RingLinks>) -> Result<Box<Core<RingLinks>>, AllocError>
     ensures { IfOk result (λ b. b.value ≡ core) }
 {
