@@ -157,38 +157,38 @@ impl Reaches {
         ensures { IfOk result (λ found. AreKept (GetsBy self.now.ends hits.now) captured (kept_by found kept.new.items)) }
     {
         match hits {
-            [] => Ok(Receivers::Nobody),
-            [hit] => match self.ends[hit.member].only() {
-                Some(endpoint) => {
+            [] => return Ok(Receivers::Nobody),
+            [hit] => {
+                if let Some(endpoint) = self.ends[hit.member].only() {
                     let kept = (hit.verdict as usize).min(captured) as u32;
-                    Ok(Receivers::One(Kept { endpoint, kept }))
+                    return Ok(Receivers::One(Kept { endpoint, kept }));
                 }
-                None => self.receive_by_several(hits, captured, verdicts, kept),
-            },
-            _ => self.receive_by_several(hits, captured, verdicts, kept),
+            }
+            _ => {}
         }
+        self.list_several(hits, captured, verdicts, kept)?;
+        Ok(Receivers::Listed)
     }
 
-    /// The same for any hits.
+    /// Lists those of any hits.
     // Not in line, so that a packet with one endpoint or none is not charged for the loops.
     #[inline(never)]
-    fn receive_by_several(
+    fn list_several(
         &self,
         hits: &[Hit],
         captured: usize,
         verdicts: &mut Vec<u32>,
         kept: &mut Vec<Kept>,
-    ) -> Result<Receivers, AllocError>
+    ) -> Result<(), AllocError>
         requires inside { AreWithin self.now.ends hits.now }
         requires apart { AreApart hits.now }
-        ensures { IfOk result (λ found. AreKept (GetsBy self.now.ends hits.now) captured (kept_by found kept.new.items)) }
+        ensures { OnOk result (AreKept (GetsBy self.now.ends hits.now) captured kept.new.items) }
     {
         if have_few(&self.ends, hits) {
-            keep_few(&self.ends, hits, captured, kept)?;
+            keep_few(&self.ends, hits, captured, kept)
         } else {
-            keep_many(&self.ends, &self.order, hits, captured, verdicts, kept)?;
+            keep_many(&self.ends, &self.order, hits, captured, verdicts, kept)
         }
-        Ok(Receivers::Listed)
     }
 }
 
