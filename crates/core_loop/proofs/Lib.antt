@@ -15,3 +15,4 @@ pub mod Answering
 pub mod Receipting
 pub mod Flowing
 pub mod Unread
+pub mod Told

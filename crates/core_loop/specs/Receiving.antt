@@ -24,6 +24,11 @@ LacksRoom s bytes original room (no.NoRoom count) = (kept : List Kept) × Accept
 LacksRoom s bytes original room no.NoMemory = Unit {0}
 LacksRoom s bytes original room why = ⊥
 
+-- why these don't fit in a room of so many places: they are so many, and more
+abbrev pub AreTooMany : List Kept → ℕ → NotReceived → Type 0
+AreTooMany kept room (no.NoRoom count) = (count ≡ length kept) × (room < count)
+AreTooMany kept room why = ⊥
+
 -- why a core doesn't receive it: it has stopped, or can't count on, or that
 abbrev pub IsRefused : {L : Type 0} → CoreState L → List ℕ → ℕ → ℕ → NotReceived → Type 0
 IsRefused c bytes original room (no.Stopped cause) = c.stopped ≡ Some cause

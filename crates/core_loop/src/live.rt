@@ -1,8 +1,8 @@
 //! What the owner of a core asks of it between its turns.
 
-ghost use Rattle.std.specs.Prelude.{◌≡◌, ◌≤◌, ◌<◌, ◌++◌, ℕ, length, take, drop, IfOk, OnErr, IfErr};
+ghost use Rattle.std.specs.Prelude.{◌≡◌, ◌≤◌, ◌<◌, ◌++◌, ◌∷◌, [], ℕ, length, take, drop, IfOk, OnErr, IfErr};
 ghost use Rattle.filter_table.specs.Tables.{Accepting};
-ghost use Rattle.core_loop.specs.Receiving.{LacksRoom};
+ghost use Rattle.core_loop.specs.Receiving.{AreTooMany, LacksRoom};
 
 use crate::cause::Cause;
 use crate::noting::noted_receipt;
@@ -11,7 +11,7 @@ use crate::running::Core;
 use core_links::Links;
 use filter_table::{Kept, Op};
 use std::alloc::AllocError;
-use table_replica::{Replica, Workspace};
+use table_replica::{Receivers, Replica, Workspace};
 use thiserror::Error;
 
 /// Why a packet isn't received. Nothing has changed.
@@ -131,43 +131,45 @@ fn accepting_into(
     ensures why { IfErr result (LacksRoom replica.now.shown bytes.now original (length room.old)) }
     ensures same_room { OnErr result (room.new ≡ room.old) }
 {
-    if replica.accepting_with(workspace, bytes, original).is_err() {
+    let Ok(found) = replica.receivers(workspace, bytes, original) else {
         return Err(NotReceived::NoMemory);
+    };
+    match found {
+        Receivers::Nobody => Ok(0),
+        Receivers::One(kept) => write_one(room, kept),
+        Receivers::Listed => write_several(room, &workspace.kept),
     }
-    let count = workspace.kept.len();
+}
+
+// Writes what one endpoint keeps to the front of the room, if there is a place. Gives 1.
+#[inline(always)]
+fn write_one(room: &mut [Kept], kept: Kept) -> Result<usize, NotReceived>
+    ensures ok { IfOk result (λ count. (count ≤ length room.new) × (take count room.new ≡ kept ∷ [])) }
+    ensures rest { IfOk result (λ count. drop count room.new ≡ drop count room.old) }
+    ensures room { length room.new ≡ length room.old }
+    ensures why { IfErr result (AreTooMany (kept ∷ []) (length room.old)) }
+    ensures same { OnErr result (room.new ≡ room.old) }
+{
+    if room.is_empty() {
+        return Err(NotReceived::NoRoom(1));
+    }
+    room[0] = kept;
+    Ok(1)
+}
+
+// Writes what is kept to the front of the room, if there are as many places. Gives how many these are.
+#[inline(never)]
+fn write_several(room: &mut [Kept], kept: &[Kept]) -> Result<usize, NotReceived>
+    ensures ok { IfOk result (λ count. (count ≤ length room.new) × (take count room.new ≡ kept.now)) }
+    ensures rest { IfOk result (λ count. drop count room.new ≡ drop count room.old) }
+    ensures room { length room.new ≡ length room.old }
+    ensures why { IfErr result (AreTooMany kept.now (length room.old)) }
+    ensures same { OnErr result (room.new ≡ room.old) }
+{
+    let count = kept.len();
     if count > room.len() {
         return Err(NotReceived::NoRoom(count));
     }
-    write_front(room, &workspace.kept);
+    room[..count].copy_from_slice(kept);
     Ok(count)
-}
-
-// Writes what is kept to the front of the room. Most packets go to one endpoint or none: these need no call that copies memory.
-#[inline(always)]
-fn write_front(room: &mut [Kept], kept: &[Kept])
-    requires { length kept.now ≤ length room.old }
-    ensures front { take (length kept.now) room.new ≡ kept.now }
-    ensures rest { drop (length kept.now) room.new ≡ drop (length kept.now) room.old }
-    ensures room { length room.new ≡ length room.old }
-{
-    match kept {
-        [] => {}
-        [only] => {
-            // Each field is read alone: a read of what was just written in parts would wait for all of them.
-            let Kept { endpoint, kept } = *only;
-            room[0] = Kept { endpoint, kept };
-        }
-        _ => write_several(room, kept),
-    }
-}
-
-// The same for any list.
-#[inline(never)]
-fn write_several(room: &mut [Kept], kept: &[Kept])
-    requires { length kept.now ≤ length room.old }
-    ensures front { take (length kept.now) room.new ≡ kept.now }
-    ensures rest { drop (length kept.now) room.new ≡ drop (length kept.now) room.old }
-    ensures room { length room.new ≡ length room.old }
-{
-    room[..kept.len()].copy_from_slice(kept);
 }
