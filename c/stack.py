@@ -14,11 +14,10 @@ import sys
 
 # Bytes that a call may take; all that aren't named take at most 2,048.
 MOST = {
-    "mkdemux_boot_cores": 4480,
-    "mkdemux_boot_limits_cores": 4480,
-    "mkdemux_turn": 4352,
-    "mkdemux_settle": 4352,
-    "mkdemux_close_core": 2304,
+    "mkdemux_boot_cores": 3456,
+    "mkdemux_boot_limits_cores": 3456,
+    "mkdemux_turn": 3968,
+    "mkdemux_settle": 3904,
 }
 OTHERS = 2048
 # Functions that call themselves, and how many of their calls are open at a time at most. A list that is sorted here has at most 65,536
