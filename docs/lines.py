@@ -15,7 +15,7 @@ import sys
 top = pathlib.Path(__file__).resolve().parent.parent
 RUST = re.compile(r"\b([a-z][a-z0-9_]*)::")
 MODULE = re.compile(r"^\s*(?:pub )?mod ([a-z][a-z0-9_]*)", re.MULTILINE)
-MOST_WAYS = 230_000
+MOST_WAYS = 180_000
 GHOST = re.compile(r"\bRattle\.([a-z][a-z0-9_]*)\.")
 
 

@@ -18,9 +18,11 @@ SAYS = "No public clause cites these"
 
 
 def names_given(crate):
-    """The types and functions that a crate gives to others by name: those of its root, and those that this passes on."""
-    root = TOP / "crates" / crate / "src/lib.rt"
-    if not root.exists():
+    """The types and functions that a crate gives to others by name: those of its root, and those that this passes on. A program gives its
+    laws to readers alone."""
+    roots = [TOP / "crates" / crate / "src" / name for name in ("lib.rt", "main.rt")]
+    root = next((root for root in roots if root.exists()), None)
+    if root is None:
         return set()
     text = re.sub(r"//[^\n]*", "", root.read_text(encoding="utf-8"))
     passed = " ".join(re.findall(r"(?m)^pub use ([^;]+);", text))

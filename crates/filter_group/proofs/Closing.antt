@@ -25,6 +25,9 @@ until_still from to end spot apart = grind (arith, nat_tests)
 until_here : (from to end : ℕ) → until from to (end + 1) (spot_at from end) ≡ spot_at to end
 until_here from to end = grind (arith, nat_tests)
 
+until_not_yet : (from to end : ℕ) → until from to end (spot_at from end) ≡ spot_at from end
+until_not_yet from to end = grind (arith, nat_tests)
+
 until_all : (from to end : ℕ) (spot : Spot) → (spot.group ≡ from → spot.member < end) → until from to end spot ≡ renumbered from to spot
 until_all from to end spot below = grind (arith, nat_tests)
 
@@ -44,6 +47,10 @@ module _ (spots : List Spot) (from to : ℕ) (places : List ℕ) (h : HaveSpots 
 
   pub to_first : map (until from to 0) spots ≡ spots
   to_first = map_same (until from to 0) spots (λ i x at. until_none from to x)
+
+  -- who has not moved yet is read where he was
+  pub to_read : (end place : ℕ) → slice_get places end ≡ Some place → slice_get (map (until from to end) spots) place ≡ Some (spot_at from end)
+  to_read end place at = map_at (until from to end) spots place (spot_at from end) (h.at end place at) ∙ ap Some (until_not_yet from to end)
 
   pub to_next : (xs : List Spot) (end place : ℕ) → xs ≡ map (until from to end) spots → slice_get places end ≡ Some place
       → slice_set xs place (spot_at to end) ≡ map (until from to (end + 1)) spots

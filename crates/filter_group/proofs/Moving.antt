@@ -1,11 +1,15 @@
 -- Spots that move one after the other.
-use Rattle.std.proofs.Common.{◌≡◌, ◌∙◌, ◌<◌, ◌≤◌, ◌+◌, ◌-◌, ◌==◌, ◌&&◌, cond, leb, ltb, ℕ, zero, suc, List, [], ◌∷◌, length, map, Some, slice_get, slice_set, refl, ap, sym, subst, arith}
+use Rattle.std.proofs.Common.{◌≡◌, ◌∙◌, ◌<◌, ◌≤◌, ◌+◌, ◌-◌, add-one, get_or, ◌==◌, ◌&&◌, cond, leb, ltb, ℕ, zero, suc, List, [], ◌∷◌, length, map, Some, slice_get, slice_set, refl, ap, sym, subst, arith}
 use Rattle.std.proofs.lemmas.Bool.Decides.{nat_tests}
-use Rattle.std.proofs.lemmas.Option.{slice_get_within}
+use Rattle.std.proofs.lemmas.Option.{slice_get_within, slice_get-get_or}
+use Rattle.bpf_insn.specs.declared.insn.Insn.{Insn}
 use Rattle.filter_group.specs.declared.places.Spot.{Spot}
 use Rattle.filter_group.specs.Placed.{Placed}
-use Rattle.filter_group.specs.Places.{HaveSpots, IsIndexed, moved_down, moved_up}
-use Rattle.filter_group.proofs.Indexed.{map_alike, spot_at}
+use Rattle.std.specs.List.{insert}
+use Rattle.std.proofs.lemmas.List.Edits.{length-insert}
+use Rattle.filter_group.specs.Places.{HadSpots, HaveSpots, IsHome, IsIndexed, moved_down, moved_up}
+use Rattle.filter_group.proofs.Edits.{insert_above}
+use Rattle.filter_group.proofs.Indexed.{map_alike, map_at, spot_at}
 use Rattle.filter_group.proofs.Sides.{one_thing}
 
 -- one item more is mapped by another function
@@ -59,6 +63,9 @@ up_here new end from = grind (arith, nat_tests)
 down_here : (old : Spot) (end : ℕ) → old.member < end → down_until old (end + 1) (spot_at old.group end) ≡ spot_at old.group (end - 1)
 down_here old end from = grind (arith, nat_tests)
 
+down_not_yet : (old : Spot) (end : ℕ) → down_until old end (spot_at old.group end) ≡ spot_at old.group end
+down_not_yet old end = grind (arith, nat_tests)
+
 up_all : (new : Spot) (end : ℕ) (spot : Spot) → (spot.group ≡ new.group → spot.member < end) → up_until new end spot ≡ moved_up new spot
 up_all new end spot below = grind (arith, nat_tests)
 
@@ -87,6 +94,10 @@ module _ (spots : List Spot) (spot : Spot) (places : List ℕ) (h : HaveSpots sp
       ∙ set_mapped (up_until spot end) (up_until spot (end + 1)) spots place (spot_at spot.group end) (h.at end place at)
       (λ j y apart there. up_still spot end y (other_member end place j y at apart there)))
 
+  -- who has not moved yet is read where he was
+  pub down_read : (end place : ℕ) → slice_get places end ≡ Some place → slice_get (map (down_until spot end) spots) place ≡ Some (spot_at spot.group end)
+  down_read end place at = map_at (down_until spot end) spots place (spot_at spot.group end) (h.at end place at) ∙ ap Some (down_not_yet spot end)
+
   pub down_next : (xs : List Spot) (end place : ℕ) → xs ≡ map (down_until spot end) spots → spot.member < end → slice_get places end ≡ Some place
       → slice_set xs place (spot_at spot.group (end - 1)) ≡ map (down_until spot (end + 1)) spots
   down_next xs end place are from at =
@@ -103,3 +114,18 @@ module _ (spots : List Spot) (spot : Spot) (places : List ℕ) (h : HaveSpots sp
 
   pub inside : (end place : ℕ) → slice_get places end ≡ Some place → place < length spots
   inside end place at = slice_get_within spots place (spot_at spot.group end) (h.at end place at)
+
+-- the places of a group into which a member was put
+module _ (spots : List Spot) (new : Spot) (places : List ℕ) (h : HadSpots spots new places) where
+  pub had_long : length places ≡ length h.before + 1
+  had_long = ap length h.put ∙ length-insert h.before new.member h.place h.within
+
+  pub had_at : (member : ℕ) → new.member ≤ member → slice_get places (member + 1) ≡ slice_get h.before member
+  had_at member from =
+      ap (λ (ps : List ℕ). slice_get ps (member + 1)) h.put
+      ∙ (ap (slice_get (insert h.before new.member h.place)) (add-one member) ∙ insert_above h.before new.member h.place member h.within from)
+
+-- the part that is read is the home's
+pub home_is : (parts : List Placed) (spot : Spot) (program : List Insn) (home : IsHome parts spot program) (part : Placed) → part ≡ get_or parts spot.group part → home.part ≡ part
+home_is parts spot program home part is =
+    one_thing parts spot.group home.part part home.there (slice_get-get_or parts spot.group part (slice_get_within parts spot.group home.part home.there) ∙ ap Some (sym is))

@@ -1,14 +1,14 @@
 //! The order of programs, by which one is found.
 
 ghost use Rattle.std.specs.Prelude.{◌≡◌, ◌<◌, ◌≤◌, ℕ, IfOk, IsTrue, IsFalse, Some, length, map, slice_get};
-ghost use Rattle.std.specs.List.{insert, remove};
+ghost use Rattle.std.specs.List.{remove};
 ghost use Rattle.filter_group.specs.Order.{IsOrder, IsRank, place_once_taken, program_cmp};
 
 use crate::placements::Placements;
 use crate::shape::{are_one_shape, is_alike, shape_order};
 use bpf_insn::Insn;
 use filter_verify::Verified;
-use std::alloc::{AllocError, Global};
+use std::alloc::AllocError;
 use std::cmp::Ordering;
 
 /// So many programs before and after one are looked at for one of its shape.
@@ -54,29 +54,53 @@ pub(crate) fn rank_of(placed: &Placements, order: &[u32], program: &[Insn]) -> u
     low
 }
 
-/// The place of a program of this one's shape, among the nearest to this one's rank.
-// Mostly it is a neighbour. Others that ask for another kind of packet may lie between.
-// Not in line: what it needs of the stack is free again before the deeper calls.
-#[inline(never)]
-pub(crate) fn near_to(
-    placed: &Placements,
-    order: &[u32],
-    rank: usize,
-    program: &Verified,
-) -> Option<usize>
-    requires { IsOrder placed.now order.now }
-{
-    for distance in 0..NEAREST {
-        if rank > distance {
-            if let Some(place) = alike_at(placed, order, rank - 1 - distance, program) {
-                return Some(place);
+/// The places of two programs of one's shape that are nearest to it in the order, as far as there are any.
+#[derive(Clone, Copy)]
+pub(crate) struct Near {
+    pub(crate) first: Option<usize>,
+    pub(crate) second: Option<usize>,
+}
+
+impl Near {
+    /// One more, if there is one.
+    fn and(self, place: Option<usize>) -> Near {
+        if self.first.is_none() {
+            Near {
+                first: place,
+                second: None,
             }
-        }
-        if let Some(place) = alike_at(placed, order, rank.saturating_add(distance), program) {
-            return Some(place);
+        } else if self.second.is_none() {
+            Near {
+                first: self.first,
+                second: place,
+            }
+        } else {
+            self
         }
     }
-    None
+}
+
+/// The places of programs of this one's shape, among the nearest to this one's rank.
+// Mostly they are neighbours. Others that ask for another kind of packet may lie between.
+// Not in line: what it needs of the stack is free again before the deeper calls.
+#[inline(never)]
+pub(crate) fn near_to(placed: &Placements, order: &[u32], rank: usize, program: &Verified) -> Near
+    requires { IsOrder placed.now order.now }
+{
+    let mut near = Near {
+        first: None,
+        second: None,
+    };
+    for distance in 0..NEAREST {
+        if rank > distance {
+            near = near.and(alike_at(placed, order, rank - 1 - distance, program));
+        }
+        near = near.and(alike_at(placed, order, rank.saturating_add(distance), program));
+        if near.second.is_some() {
+            return near;
+        }
+    }
+    near
 }
 
 /// The place of the program of this rank, if it has this one's shape.
@@ -91,52 +115,28 @@ fn alike_at(placed: &Placements, order: &[u32], rank: usize, program: &Verified)
     }
 }
 
-/// The order once a place is put into it.
-// Not in line: what it needs of the stack is free again before the deeper calls.
-#[inline(never)]
-pub(crate) fn order_with(
-    alloc: Global,
-    order: &[u32],
-    rank: usize,
-    place: usize,
-) -> Result<Vec<u32>, AllocError>
-    requires { rank ≤ length order.now }
-    ensures { IfOk result (λ after. after.items ≡ insert order.now rank place) }
-{
-    let place = in_half(place)?;
-    let mut after = Vec::with_capacity(alloc, order.len() + 1)?;
-    after.extend_from_slice(order)?;
-    after.insert(rank, place)?;
-    Ok(after)
-}
-
-/// A place in half the room: an order is copied by each change.
-fn in_half(place: usize) -> Result<u32, AllocError>
-    ensures { IfOk result (λ half. half ≡ place) }
+/// A place in half the room, of which an order is made.
+pub(crate) fn in_half(place: usize) -> Result<u32, AllocError>
+    ensures same { IfOk result (λ half. half ≡ place) }
+    ensures small { IfOk result (λ half. half < 4294967296) }
 {
     // No list is that long.
     u32::try_from(place).ok().ok_or(AllocError)
 }
 
-/// The order once the program at a place is taken out, and the last has its place.
+/// Takes a place out of the order, and gives it to the last, whose program has it then.
 // Not in line: what it needs of the stack is free again before the deeper calls.
 #[inline(never)]
-pub(crate) fn order_without(
-    mut order: Vec<u32>,
-    taken: usize,
-    last: usize,
-) -> Result<Vec<u32>, AllocError>
-    requires taken { (rank : ℕ) × (slice_get order.items rank ≡ Some taken) }
-    requires last { (rank : ℕ) × (slice_get order.items rank ≡ Some last) }
-    requires once { (i j : ℕ) → slice_get order.items i ≡ Some last → slice_get order.items j ≡ Some last → i ≡ j }
-    ensures { IfOk result (λ left. (rank : ℕ) × (slice_get order.items rank ≡ Some taken) × (left.items ≡ map (place_once_taken taken last) (remove order.items rank))) }
+pub(crate) fn take_place(order: &mut Vec<u32>, taken: u32, last: u32)
+    requires taken { (rank : ℕ) × (slice_get order.old.items rank ≡ Some taken) }
+    requires last { (rank : ℕ) × (slice_get order.old.items rank ≡ Some last) }
+    requires once { (i j : ℕ) → slice_get order.old.items i ≡ Some last → slice_get order.old.items j ≡ Some last → i ≡ j }
+    ensures { (rank : ℕ) × (slice_get order.old.items rank ≡ Some taken) × (order.new.items ≡ map (place_once_taken taken last) (remove order.old.items rank)) }
 {
-    let taken = in_half(taken)?;
-    let rank = rank_at(&order, taken);
-    let renamed = rank_at(&order, in_half(last)?);
+    let rank = rank_at(order, taken);
+    let renamed = rank_at(order, last);
     order[renamed] = taken;
     order.remove(rank);
-    Ok(order)
 }
 
 /// Where a place is in the order.

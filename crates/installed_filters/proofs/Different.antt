@@ -1,6 +1,8 @@
 -- The programs of the filters, each once, and a filter by its id.
-use Rattle.std.proofs.Common.{◌≡◌, ◌<◌, ◌+◌, ◌==◌, ◌⊎◌, inl, inr, ℕ, zero, suc, Bool, true, false, Option, Some, List, [], ◌∷◌, ◌++◌, map, filter, length, slice_get, Contains, refl, ap, sym, ◌∙◌, subst, arith, nat_eq}
-use Rattle.std.proofs.lemmas.Option.{slice_get_within as within}
+use Rattle.std.proofs.Common.{◌≡◌, ◌<◌, ◌+◌, ◌==◌, ℕ, zero, suc, Bool, true, false, cond, count_by, Option, Some, None, is_some, List, [], ◌∷◌, map, filter, length, slice_get, refl, ap, sym, ◌∙◌, subst, arith, nat_eq}
+use Rattle.std.proofs.lemmas.Option.{slice_get-get_or, get_or_from_slice_get}
+use Rattle.std.proofs.lemmas.Bool.{ltb-true, lt-ltb}
+use Rattle.std.proofs.lemmas.List.Recursion.{is_count_by}
 use Rattle.std.specs.Option.{option_map}
 use Rattle.bpf_insn.specs.declared.insn.Insn.{Insn}
 use Rattle.chunked.specs.Maps.{SortedMap, value_at}
@@ -10,18 +12,16 @@ use Rattle.filter_table.specs.Tables.{filter_at}
 use Rattle.filter_table.proofs.Lists.{never, in_map, was_mapped, in_filter, from_filter, in_head, in_tail}
 use Rattle.installed_filters.specs.declared.slots.Slot.{Slot}
 use Rattle.installed_filters.specs.declared.books.Row.{Row}
-use Rattle.installed_filters.specs.declared.lists.Lists.{Lists}
-use Rattle.installed_filters.specs.Slotting.{slot_at}
-use Rattle.installed_filters.specs.Books.{tally, has_number, holds_number, IsTally}
-use Rattle.installed_filters.specs.Numbering.{Numbering, Has, AreDistinct}
+use Rattle.installed_filters.specs.Slotting.{slot_at, is_held}
+use Rattle.installed_filters.specs.Books.{AreBooked, tally, has_number, holds_number, IsTally}
 use Rattle.installed_filters.specs.Homes.{program_in}
 use Rattle.installed_filters.specs.Installed.{Installed, installed, installed_row}
-use Rattle.installed_filters.specs.Planning.{IsKept}
+use Rattle.installed_filters.specs.Planning.{AreIds}
 use Rattle.installed_filters.specs.Lent.{IsIn, AreDifferent, AreLendable, listed, held_listed, listed_row}
 use Rattle.installed_filters.proofs.Booked.{eq_yes, yes_eq}
 use Rattle.installed_filters.proofs.Received.{tally_found, both}
 use Rattle.installed_filters.proofs.Rows.{booked_slot, tally_some}
-use Rattle.installed_filters.proofs.Positions.{get_at, get_front, get_later, in_either}
+use Rattle.installed_filters.proofs.Homed.{slot_inside}
 
 -- A filter by its id
 
@@ -61,151 +61,167 @@ first_lendable slots rows rest e is known = (subst (AreLendable slots) is known)
 
 -- Programs
 
-module _ (rows : List (ℕ × Row)) (slots : List (Option Slot)) (ends : List (SortedMap ℕ)) (lists : Lists) (kept : IsKept rows slots ends lists) where
-  -- each row can be lent
-  pub lendable : AreLendable slots rows
-  lendable = record { programs = booked_slot rows slots ends kept.booked; ids = kept.ids }
+-- each row can be lent
+pub lendable : (rows : List (ℕ × Row)) (slots : List (Option Slot)) (ends : List (SortedMap ℕ)) → AreBooked rows slots ends → AreIds rows → AreLendable slots rows
+lendable rows slots ends booked ids = record { programs = booked_slot rows slots ends booked; ids = ids }
 
+-- those of the slots that pass a test
+programs_of : (Option Slot → Bool) → List (Option Slot) → List (List Insn)
+programs_of p [] = []
+programs_of p (o ∷ os) = cond (p o) (program_in o ∷ programs_of p os) (programs_of p os)
+
+abbrev IsPicked : (Option Slot → Bool) → List (Option Slot) → ℕ → List Insn → Type 0
+IsPicked p os n program = (o : Option Slot) × (slice_get os n ≡ Some o) × (p o ≡ true) × (program_in o ≡ program)
+
+picked_many : (p : Option Slot → Bool) (os : List (Option Slot)) → count_by p os ≡ length (programs_of p os)
+unfolding programs_of
+picked_many p os = sym (is_count_by (λ (xs : List (Option Slot)). length (programs_of p xs)) p refl (λ x xs. by_test x xs (p x) refl) os)
+  where
+    by_test : (x : Option Slot) (xs : List (Option Slot)) (b : Bool) → p x ≡ b → length (programs_of p (x ∷ xs)) ≡ cond (p x) (1 + length (programs_of p xs)) (length (programs_of p xs))
+    by_test x xs true t = rw t (omega arith)
+    by_test x xs false t = rw t refl
+
+was_picked : (p : Option Slot → Bool) (os : List (Option Slot)) (i : ℕ) (program : List Insn) → slice_get (programs_of p os) i ≡ Some program → (n : ℕ) × IsPicked p os n program
+unfolding programs_of
+was_picked p [] i program at = absurd cc
+was_picked p (o ∷ os) i program at = by_test (p o) refl (was_picked p os)
+  where
+    later : ((n : ℕ) × IsPicked p os n program) → (n : ℕ) × IsPicked p (o ∷ os) n program
+    later x = (suc x.0, x.1)
+
+    by_place : (k : ℕ) → p o ≡ true → ((i : ℕ) (q : List Insn) → slice_get (programs_of p os) i ≡ Some q → (n : ℕ) × IsPicked p os n q) → slice_get (program_in o ∷ programs_of p os) k ≡ Some program → (n : ℕ) × IsPicked p (o ∷ os) n program
+    by_place zero t rest there = (0, (o, refl, t, cc))
+    by_place (suc k) t rest there = later (rest k program there)
+
+    by_test : (b : Bool) → p o ≡ b → ((i : ℕ) (q : List Insn) → slice_get (programs_of p os) i ≡ Some q → (n : ℕ) × IsPicked p os n q) → (n : ℕ) × IsPicked p (o ∷ os) n program
+    by_test true t rest = by_place i t rest (rw t at at)
+    by_test false t rest = later (rest i program (rw t at at))
+
+is_picked : (p : Option Slot → Bool) (os : List (Option Slot)) (n : ℕ) (program : List Insn) → IsPicked p os n program → IsIn (programs_of p os) program
+unfolding programs_of
+is_picked p [] n program x = absurd (let e = x.1 in cc)
+is_picked p (o ∷ os) zero program x = let is : o ≡ x.0 = let e = x.1 in cc in (0, rw (ap p is ∙ x.2) (ap (λ (y : Option Slot). Some (program_in y)) is ∙ ap (λ (q : List Insn). Some q) x.3))
+is_picked p (o ∷ os) (suc n) program x = by_test (p o) refl (is_picked p os n program x)
+  where
+    by_test : (b : Bool) → p o ≡ b → IsIn (programs_of p os) program → IsIn (programs_of p (o ∷ os)) program
+    by_test true t rest = (suc rest.0, rw t rest.1)
+    by_test false t rest = (rest.0, rw t rest.1)
+
+-- slots that pass the test have different programs
+abbrev ArePickedApart : (Option Slot → Bool) → List (Option Slot) → Type 0
+ArePickedApart p os = (n k : ℕ) (program : List Insn) → IsPicked p os n program → IsPicked p os k program → n ≡ k
+
+picked_apart : (p : Option Slot → Bool) (os : List (Option Slot)) → ArePickedApart p os → (i j : ℕ) (program : List Insn) → slice_get (programs_of p os) i ≡ Some program → slice_get (programs_of p os) j ≡ Some program → i ≡ j
+unfolding programs_of
+picked_apart p [] apart i j program at at' = absurd cc
+picked_apart p (o ∷ os) apart i j program at at' = by_test (p o) refl (picked_apart p os (λ n k q x y. (let same = apart (suc n) (suc k) q x y in omega arith)))
+  where
+    first : (k : ℕ) → p o ≡ true → slice_get (programs_of p os) k ≡ Some (program_in o) → ⊥
+    first k t there = let x = was_picked p os k (program_in o) there in let same = apart 0 (suc x.0) (program_in o) (o, refl, t, refl) x.1 in omega arith
+
+    by_place : (a b : ℕ) → p o ≡ true → ((n k : ℕ) (q : List Insn) → slice_get (programs_of p os) n ≡ Some q → slice_get (programs_of p os) k ≡ Some q → n ≡ k)
+        → slice_get (program_in o ∷ programs_of p os) a ≡ Some program → slice_get (program_in o ∷ programs_of p os) b ≡ Some program → a ≡ b
+    by_place zero zero t rest x y = refl
+    by_place zero (suc b) t rest x y = absurd (first b t (y ∙ sym x))
+    by_place (suc a) zero t rest x y = absurd (first a t (x ∙ sym y))
+    by_place (suc a) (suc b) t rest x y = ap suc (rest a b program x y)
+
+    by_test : (b : Bool) → p o ≡ b → ((n k : ℕ) (q : List Insn) → slice_get (programs_of p os) n ≡ Some q → slice_get (programs_of p os) k ≡ Some q → n ≡ k) → i ≡ j
+    by_test true t rest = by_place i j t rest (rw t at at) (rw t at at')
+    by_test false t rest = rest i j program (rw t at at) (rw t at at')
+
+slot_got : (slots : List (Option Slot)) (m : ℕ) (s : Slot) → slot_at slots m ≡ Some s → slice_get slots m ≡ Some (Some s)
+slot_got slots m s at = slice_get-get_or slots m None (slot_inside slots m s at) ∙ ap (λ (o : Option Slot). Some o) at
+
+got_slot : (slots : List (Option Slot)) (m : ℕ) (o : Option Slot) → slice_get slots m ≡ Some o → slot_at slots m ≡ o
+got_slot slots m o at = get_or_from_slice_get slots m o None at
+
+module _ (rows : List (ℕ × Row)) (slots : List (Option Slot)) (ends : List (SortedMap ℕ)) (booked : AreBooked rows slots ends) where
   abbrev Found : List ListedFilter → List Insn → Type 0
   Found filters program = (k : ℕ) × (f : ListedFilter) × (slice_get filters k ≡ Some f) × (f.program ≡ program)
 
   tallied : (m : ℕ) (s : Slot) → slot_at slots m ≡ Some s → IsTally (Some s) (tally (has_number m) rows) (tally (holds_number m) rows)
-  tallied m s at = subst (λ (o : Option Slot). IsTally o (tally (has_number m) rows) (tally (holds_number m) rows)) at (kept.booked.filters m)
-
-  -- a program at a place has a number
-  numbered : (n : Numbering) → length n.numbers ≡ length n.programs → (i : ℕ) (program : List Insn) → slice_get n.programs i ≡ Some program → (m : ℕ) × Has n m program
-  numbered n same i program at =
-      let inside = within n.programs i program at in
-      let number = get_at n.numbers i (omega (arith, inside, same)) in
-      (number.0, (i, at, number.1))
+  tallied m s at = subst (λ (o : Option Slot). IsTally o (tally (has_number m) rows) (tally (holds_number m) rows)) at (booked.filters m)
 
   shows : (e : ℕ × Row) (m : ℕ) (s : Slot) → e.1.number ≡ m → slot_at slots m ≡ Some s → (listed_row slots e).program ≡ s.program
   shows e m s number at = ap (λ (k : ℕ). program_in (slot_at slots k)) number ∙ ap program_in at
 
-  -- a program that runs is that of a filter whose capability is held
-  runs_row : (m : ℕ) (program : List Insn) → Has lists.running m program → (e : ℕ × Row) × Contains rows e × (e.1.held ≡ true) × ((listed_row slots e).program ≡ program)
-  runs_row m program has =
-      let r = (kept.listed.run m program).0 has in
-      let t = tallied m r.0 r.1 in
-      let some = r.3 in
-      let same = t.1 in
-      let found = tally_found (holds_number m) rows (omega (arith, some, same)) in
-      let b = both found.0.1.held (found.0.1.number == m) found.2 in
-      (found.0, found.1, b.0, shows found.0 m r.0 (yes_eq found.0.1.number m b.1) r.1 ∙ r.2)
+  -- the slots with programs have different ones
+  some_apart : (p : Option Slot → Bool) → ((o : Option Slot) → p o ≡ true → (s : Slot) × (o ≡ Some s)) → (n k : ℕ) (program : List Insn) → IsPicked p slots n program → IsPicked p slots k program → n ≡ k
+  some_apart p some n k program x y =
+      let s = some x.0 x.2 in
+      let t = some y.0 y.2 in
+      booked.apart n k s.0 t.0 (got_slot slots n x.0 x.1 ∙ s.1) (got_slot slots k y.0 y.1 ∙ t.1) (sym (ap program_in s.1) ∙ (x.3 ∙ (sym y.3 ∙ ap program_in t.1)))
 
-  -- one that rests is that of a filter
-  rests_row : (m : ℕ) (program : List Insn) → Has lists.resting m program → (e : ℕ × Row) × Contains rows e × ((listed_row slots e).program ≡ program)
-  rests_row m program has =
-      let r = (kept.listed.rest m program).0 has in
-      let t = tallied m r.0 r.1 in
-      let found = tally_found (has_number m) rows t.2 in
-      (found.0, found.1, shows found.0 m r.0 (yes_eq found.0.1.number m found.2) r.1 ∙ r.2)
+  is_there : (o : Option Slot) → is_some o ≡ true → (s : Slot) × (o ≡ Some s)
+  is_there None e = absurd cc
+  is_there (Some s) e = (s, refl)
 
-  -- the program of a filter whose capability is held runs
-  row_runs : (e : ℕ × Row) → Contains rows e → e.1.held ≡ true → Has lists.running e.1.number (listed_row slots e).program
-  row_runs e at held =
-      let s = booked_slot rows slots ends kept.booked e at in
-      let t = tallied e.1.number s.0 s.1 in
-      let some = tally_some (holds_number e.1.number) rows e at (rw held (eq_yes e.1.number e.1.number refl)) in
-      let same = t.1 in
-      (kept.listed.run e.1.number (listed_row slots e).program).1 (s.0, s.1, sym (ap program_in s.1), omega (arith, some, same))
+  is_held_there : (o : Option Slot) → is_held o ≡ true → (s : Slot) × (o ≡ Some s) × (0 < s.held)
+  is_held_there None e = absurd cc
+  is_held_there (Some s) e = (s, refl, ltb-true 0 s.held e)
 
-  -- and that of any filter runs or rests
-  row_listed : (e : ℕ × Row) → Contains rows e → Has lists.running e.1.number (listed_row slots e).program ⊎ Has lists.resting e.1.number (listed_row slots e).program
-  row_listed e at = by_held s.0.held refl
+  -- the filters whose capability is held have just the programs that are counted as held
+  pub running_different : AreDifferent (held_listed (installed slots rows)) (count_by is_held slots)
+  running_different = record {
+    programs = programs_of is_held slots;
+    distinct = picked_apart is_held slots (some_apart is_held (λ o t. (let s = is_held_there o t in (s.0, s.1))));
+    each = λ program. (to program, from program);
+    counted = picked_many is_held slots;
+  }
     where
-      s : (s : Slot) × (slot_at slots e.1.number ≡ Some s)
-      s = booked_slot rows slots ends kept.booked e at
+      to : (program : List Insn) → IsIn (programs_of is_held slots) program → Found (held_listed (installed slots rows)) program
+      to program at =
+          let x = was_picked is_held slots at.0 program at.1 in
+          let s = is_held_there x.1.0 x.1.2 in
+          let there = got_slot slots x.0 x.1.0 x.1.1 ∙ s.1 in
+          let t = tallied x.0 s.0 there in
+          let some = s.2 in
+          let same = t.1 in
+          let e = tally_found (holds_number x.0) rows (omega (arith, some, same)) in
+          let b = both e.0.1.held (e.0.1.number == x.0) e.2 in
+          let is : (listed_row slots e.0).program ≡ program = shows e.0 x.0 s.0 (yes_eq e.0.1.number x.0 b.1) there ∙ (sym (ap program_in s.1) ∙ x.1.3) in
+          let among = in_filter (λ (f : Installed). f.held) (installed slots rows) (installed_row slots e.0) (in_map (installed_row slots) rows e.0 e.1) b.0 in
+          let listed_there = at_contains (held_listed (installed slots rows)) (listed_row slots e.0) (in_map (λ (f : Installed). f.filter) (filter (λ (f : Installed). f.held) (installed slots rows)) (installed_row slots e.0) among) in
+          (listed_there.0, listed_row slots e.0, listed_there.1, is)
 
-      by_held : (n : ℕ) → s.0.held ≡ n → Has lists.running e.1.number (listed_row slots e).program ⊎ Has lists.resting e.1.number (listed_row slots e).program
-      by_held zero is = inr ((kept.listed.rest e.1.number (listed_row slots e).program).1 (s.0, s.1, sym (ap program_in s.1), is))
-      by_held (suc n) is = inl ((kept.listed.run e.1.number (listed_row slots e).program).1 (s.0, s.1, sym (ap program_in s.1), omega (arith, is)))
+      from : (program : List Insn) → Found (held_listed (installed slots rows)) program → IsIn (programs_of is_held slots) program
+      from program has =
+          let f = was_mapped (λ (f : Installed). f.filter) (filter (λ (f : Installed). f.held) (installed slots rows)) has.1 (contains_at (held_listed (installed slots rows)) has.0 has.1 has.2) in
+          let g = from_filter (λ (f : Installed). f.held) (installed slots rows) f.0 f.1 in
+          let e = was_mapped (installed_row slots) rows f.0 g.0 in
+          let held : e.0.1.held ≡ true = ap (λ (i : Installed). i.held) e.2 ∙ g.1 in
+          let is : (listed_row slots e.0).program ≡ program = ap (λ (i : Installed). i.filter.program) e.2 ∙ (ap (λ (l : ListedFilter). l.program) f.2 ∙ has.3) in
+          let s = booked_slot rows slots ends booked e.0 e.1 in
+          let t = tallied e.0.1.number s.0 s.1 in
+          let some = tally_some (holds_number e.0.1.number) rows e.0 e.1 (rw held (eq_yes e.0.1.number e.0.1.number refl)) in
+          let same = t.1 in
+          is_picked is_held slots e.0.1.number program (Some s.0, slot_got slots e.0.1.number s.0 s.1, lt-ltb 0 s.0.held (omega (arith, some, same)), sym (ap program_in s.1) ∙ is)
 
-  -- no program both runs and rests
-  never_both : (m n : ℕ) (program : List Insn) → Has lists.running m program → Has lists.resting n program → ⊥
-  never_both m n program runs rests =
-      let a = (kept.listed.run m program).0 runs in
-      let b = (kept.listed.rest n program).0 rests in
-      let same : m ≡ n = kept.booked.apart m n a.0 b.0 a.1 b.1 (a.2 ∙ sym b.2) in
-      let one = one_slot a.0 b.0 (sym a.1 ∙ (ap (slot_at slots) same ∙ b.1)) in
-      let some = a.3 in
-      let none = ap (λ (s : Slot). s.held) one ∙ b.3 in
-      omega (arith, some, none)
+  -- all have just those of the slots
+  pub all_different : AreDifferent (listed (installed slots rows)) (count_by is_some slots)
+  all_different = record {
+    programs = programs_of is_some slots;
+    distinct = picked_apart is_some slots (some_apart is_some is_there);
+    each = λ program. (to program, from program);
+    counted = picked_many is_some slots;
+  }
     where
-      one_slot : (s t : Slot) → Some s ≡ Some t → s ≡ t
-      one_slot s t e = cc
+      to : (program : List Insn) → IsIn (programs_of is_some slots) program → Found (listed (installed slots rows)) program
+      to program at =
+          let x = was_picked is_some slots at.0 program at.1 in
+          let s = is_there x.1.0 x.1.2 in
+          let there = got_slot slots x.0 x.1.0 x.1.1 ∙ s.1 in
+          let t = tallied x.0 s.0 there in
+          let e = tally_found (has_number x.0) rows t.2 in
+          let is : (listed_row slots e.0).program ≡ program = shows e.0 x.0 s.0 (yes_eq e.0.1.number x.0 e.2) there ∙ (sym (ap program_in s.1) ∙ x.1.3) in
+          let listed_there = at_contains (listed (installed slots rows)) (listed_row slots e.0) (in_map (λ (f : Installed). f.filter) (installed slots rows) (installed_row slots e.0) (in_map (installed_row slots) rows e.0 e.1)) in
+          (listed_there.0, listed_row slots e.0, listed_there.1, is)
 
-  module _ (run_numbers : length lists.running.numbers ≡ length lists.running.programs) (run_distinct : AreDistinct lists.running.programs) where
-    -- the filters whose capability is held have just the programs that run
-    pub running_different : AreDifferent (held_listed (installed slots rows)) (length lists.running.programs)
-    running_different = record {
-      programs = lists.running.programs;
-      distinct = run_distinct;
-      each = λ program. (to program, from program);
-      counted = refl;
-    }
-      where
-        to : (program : List Insn) → IsIn lists.running.programs program → Found (held_listed (installed slots rows)) program
-        to program at =
-            let n = numbered lists.running run_numbers at.0 program at.1 in
-            let e = runs_row n.0 program n.1 in
-            let among = in_filter (λ (f : Installed). f.held) (installed slots rows) (installed_row slots e.0) (in_map (installed_row slots) rows e.0 e.1) e.2 in
-            let there = at_contains (held_listed (installed slots rows)) (listed_row slots e.0) (in_map (λ (f : Installed). f.filter) (filter (λ (f : Installed). f.held) (installed slots rows)) (installed_row slots e.0) among) in
-            (there.0, listed_row slots e.0, there.1, e.3)
-
-        from : (program : List Insn) → Found (held_listed (installed slots rows)) program → IsIn lists.running.programs program
-        from program has =
-            let f = was_mapped (λ (f : Installed). f.filter) (filter (λ (f : Installed). f.held) (installed slots rows)) has.1 (contains_at (held_listed (installed slots rows)) has.0 has.1 has.2) in
-            let g = from_filter (λ (f : Installed). f.held) (installed slots rows) f.0 f.1 in
-            let e = was_mapped (installed_row slots) rows f.0 g.0 in
-            let held : e.0.1.held ≡ true = ap (λ (i : Installed). i.held) e.2 ∙ g.1 in
-            let is : (listed_row slots e.0).program ≡ program = ap (λ (i : Installed). i.filter.program) e.2 ∙ (ap (λ (l : ListedFilter). l.program) f.2 ∙ has.3) in
-            let runs = row_runs e.0 e.1 held in
-            (runs.0, runs.1 ∙ ap (λ (p : List Insn). Some p) is)
-
-    module _ (rest_numbers : length lists.resting.numbers ≡ length lists.resting.programs) (rest_distinct : AreDistinct lists.resting.programs) where
-      -- all have just those of both lists
-      pub all_different : AreDifferent (listed (installed slots rows)) (length (lists.running.programs ++ lists.resting.programs))
-      all_different = record {
-        programs = lists.running.programs ++ lists.resting.programs;
-        distinct = λ i j program at at'. either i j program (in_either lists.running.programs lists.resting.programs i program at) (in_either lists.running.programs lists.resting.programs j program at');
-        each = λ program. (to program, from program);
-        counted = refl;
-      }
-        where
-          apart : (i j : ℕ) (program : List Insn) → slice_get lists.running.programs i ≡ Some program → slice_get lists.resting.programs j ≡ Some program → ⊥
-          apart i j program a b =
-              let m = numbered lists.running run_numbers i program a in
-              let n = numbered lists.resting rest_numbers j program b in
-              never_both m.0 n.0 program m.1 n.1
-
-          either : (i j : ℕ) (program : List Insn)
-              → (slice_get lists.running.programs i ≡ Some program) ⊎ ((k : ℕ) × (i ≡ length lists.running.programs + k) × (slice_get lists.resting.programs k ≡ Some program))
-              → (slice_get lists.running.programs j ≡ Some program) ⊎ ((k : ℕ) × (j ≡ length lists.running.programs + k) × (slice_get lists.resting.programs k ≡ Some program)) → i ≡ j
-          either i j program (inl a) (inl b) = run_distinct i j program a b
-          either i j program (inl a) (inr b) = absurd (apart i b.0 program a b.2)
-          either i j program (inr a) (inl b) = absurd (apart j a.0 program b a.2)
-          either i j program (inr a) (inr b) = let same = rest_distinct a.0 b.0 program a.2 b.2 in a.1 ∙ (ap (λ (n : ℕ). length lists.running.programs + n) same ∙ sym b.1)
-
-          found : (e : ℕ × Row) (program : List Insn) → Contains rows e → (listed_row slots e).program ≡ program → Found (listed (installed slots rows)) program
-          found e program at is =
-              let there = at_contains (listed (installed slots rows)) (listed_row slots e) (in_map (λ (f : Installed). f.filter) (installed slots rows) (installed_row slots e) (in_map (installed_row slots) rows e at)) in
-              (there.0, listed_row slots e, there.1, is)
-
-          to : (program : List Insn) → IsIn (lists.running.programs ++ lists.resting.programs) program → Found (listed (installed slots rows)) program
-          to program at = by_list (in_either lists.running.programs lists.resting.programs at.0 program at.1)
-            where
-              by_list : (slice_get lists.running.programs at.0 ≡ Some program) ⊎ ((k : ℕ) × (at.0 ≡ length lists.running.programs + k) × (slice_get lists.resting.programs k ≡ Some program)) → Found (listed (installed slots rows)) program
-              by_list (inl a) = let n = numbered lists.running run_numbers at.0 program a in let e = runs_row n.0 program n.1 in found e.0 program e.1 e.3
-              by_list (inr b) = let n = numbered lists.resting rest_numbers b.0 program b.2 in let e = rests_row n.0 program n.1 in found e.0 program e.1 e.2
-
-          from : (program : List Insn) → Found (listed (installed slots rows)) program → IsIn (lists.running.programs ++ lists.resting.programs) program
-          from program has =
-              let f = was_mapped (λ (f : Installed). f.filter) (installed slots rows) has.1 (contains_at (listed (installed slots rows)) has.0 has.1 has.2) in
-              let e = was_mapped (installed_row slots) rows f.0 f.1 in
-              let is : (listed_row slots e.0).program ≡ program = ap (λ (i : Installed). i.filter.program) e.2 ∙ (ap (λ (l : ListedFilter). l.program) f.2 ∙ has.3) in
-              subst (λ (p : List Insn). IsIn (lists.running.programs ++ lists.resting.programs) p) is (by_list (row_listed e.0 e.1))
-            where
-              by_list : {m : ℕ} {p : List Insn} → Has lists.running m p ⊎ Has lists.resting m p → IsIn (lists.running.programs ++ lists.resting.programs) p
-              by_list {m} {p} (inl a) = (a.0, get_front lists.running.programs lists.resting.programs a.0 p a.1)
-              by_list {m} {p} (inr b) = (length lists.running.programs + b.0, get_later lists.running.programs lists.resting.programs b.0 (length lists.running.programs + b.0) refl ∙ b.1)
+      from : (program : List Insn) → Found (listed (installed slots rows)) program → IsIn (programs_of is_some slots) program
+      from program has =
+          let f = was_mapped (λ (f : Installed). f.filter) (installed slots rows) has.1 (contains_at (listed (installed slots rows)) has.0 has.1 has.2) in
+          let e = was_mapped (installed_row slots) rows f.0 f.1 in
+          let is : (listed_row slots e.0).program ≡ program = ap (λ (i : Installed). i.filter.program) e.2 ∙ (ap (λ (l : ListedFilter). l.program) f.2 ∙ has.3) in
+          let s = booked_slot rows slots ends booked e.0 e.1 in
+          is_picked is_some slots e.0.1.number program (Some s.0, slot_got slots e.0.1.number s.0 s.1, refl, sym (ap program_in s.1) ∙ is)

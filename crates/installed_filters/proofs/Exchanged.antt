@@ -1,32 +1,40 @@
 -- A filter that comes to another program before it leaves its own.
 use Rattle.std.proofs.Common.{◌≡◌, ◌<◌, ◌+◌, ◌==◌, ◌⊎◌, inl, inr, ℕ, suc, Bool, true, false, nat_eq, Option, Some, None, Ok, Err, List, [], ◌∷◌, length, map, set, Contains, refl, ap, sym, ◌∙◌, subst}
-use Rattle.std.specs.Prelude.{IsTrue, Result, OnErr}
+use Rattle.std.specs.Prelude.{IsTrue, Result, OnErr, OnOk}
 use Rattle.std.specs.Map.{keys_of}
 use Rattle.std.specs.List.Sorted.{IsStrictlyIncreasing}
 use Rattle.std.proofs.lemmas.Map.Keys.{sorted_from_strictly_increasing}
 use Rattle.std.proofs.lemmas.Map.Steps.{set_value_same}
 use Rattle.filter_table.proofs.Lists.{in_map}
 use Rattle.bpf_insn.specs.declared.insn.Insn.{Insn}
-use Rattle.chunked.specs.Maps.{SortedMap, value_at}
+use Rattle.chunked.specs.Maps.{value_at}
 use Rattle.installed_filters.specs.declared.slots.Slot.{Slot}
-use Rattle.installed_filters.specs.Numbering.{Numbering}
 use Rattle.installed_filters.specs.Slotting.{slot_at, new_slot, one_less, one_more, MayGo}
 use Rattle.installed_filters.proofs.Freeing.{at_set}
 use Rattle.installed_filters.specs.declared.books.Row.{Row}
-use Rattle.installed_filters.specs.declared.lists.Lists.{Lists}
-use Rattle.installed_filters.specs.Books.{AreBooked, Begins, base_slot}
-use Rattle.installed_filters.specs.Listing.{AreListed}
-use Rattle.installed_filters.specs.Homes.{AreProgramsApart, lists_after, program_in, slots_with}
+use Rattle.installed_filters.specs.Books.{Begins, base_slot}
+use Rattle.installed_filters.specs.Homes.{AreProgramsApart, program_in, slots_with}
 use Rattle.installed_filters.specs.Leaving.{slots_without}
 use Rattle.installed_filters.specs.Installed.{Installed, installed, installed_row, replaced_by}
-use Rattle.installed_filters.specs.Planning.{AreIds, IsKept, slots_swapped}
+use Rattle.installed_filters.specs.Planning.{slots_swapped}
 use Rattle.installed_filters.proofs.Booked.{eq_no, eq_yes, yes_eq}
-use Rattle.installed_filters.proofs.Homed.{listed_same}
 use Rattle.installed_filters.proofs.Rows.{found_in, replaced_rows}
 
 pub on_err : {A E : Type 0} (r : Result A E) (P : Type 0) → P → OnErr r P
 on_err (Ok a) P p = tt
 on_err (Err e) P p = p
+
+pub map_err : {A E : Type 0} (r : Result A E) (P Q : Type 0) → (P → Q) → OnErr r P → OnErr r Q
+map_err (Ok a) P Q f p = tt
+map_err (Err e) P Q f p = f p
+
+pub on_ok : {A E : Type 0} (r : Result A E) (P : Type 0) → P → OnOk r P
+on_ok (Ok a) P p = p
+on_ok (Err e) P p = tt
+
+pub map_ok : {A E : Type 0} (r : Result A E) (P Q : Type 0) → (P → Q) → OnOk r P → OnOk r Q
+map_ok (Ok a) P Q f p = f p
+map_ok (Err e) P Q f p = tt
 
 pub may_go : {ready : Bool} → IsTrue ready → (o : Option Slot) → MayGo ready o
 may_go ready None = tt
@@ -42,11 +50,6 @@ installed-length slots rows now is = sym (ap (length {A = Installed}) is) ∙ lo
 pub held_there : (slots : List (Option Slot)) (rows : List (ℕ × Row)) (now : List Installed) (id : ℕ) (old : Row) → installed slots rows ≡ now → ((f : Installed) → Contains now f → f.filter.id ≡ id → f.held ≡ true) → value_at rows id ≡ Some old → old.held ≡ true
 held_there slots rows now id old is held at =
     held (installed_row slots (id, old)) (subst (λ (fs : List Installed). Contains fs (installed_row slots (id, old))) is (in_map (installed_row slots) rows (id, old) (found_in rows id old at))) refl
-
--- it has the program already
-pub base_there : (slots : List (Option Slot)) (number : ℕ) (start : Option (List Insn)) (s : Slot) → Begins slots number start → slot_at slots number ≡ Some s → base_slot slots number start ≡ slot_at slots number
-base_there slots number None s begins there = refl
-base_there slots number (Some p) s begins there = absurd (let e = sym begins.0 ∙ there in cc)
 
 pub replaced_same : (rows : List (ℕ × Row)) (slots : List (Option Slot)) (id : ℕ) (old : Row) (program : List Insn) → IsStrictlyIncreasing (keys_of rows) → value_at rows id ≡ Some old → program_in (slot_at slots old.number) ≡ program
     → installed slots rows ≡ map (replaced_by id program) (installed slots rows)
@@ -103,9 +106,6 @@ module _ (slots : List (Option Slot)) (number : ℕ) (start : Option (List Insn)
     ]
   ]
 
-  pub between_listed : (running resting : Numbering) → AreListed (slots_with slots number start) running resting → AreListed (slot_at (between slots number start)) running resting
-  between_listed running resting h = listed_same (slots_with slots number start) (slot_at (between slots number start)) running resting between_at h
-
   pub swapped_is : (old row : Row) → row.number ≡ number → row.held ≡ true → (old.number ≡ number → ⊥) → (m : ℕ) → slots_swapped slots old row start m ≡ slots_without (between slots number start) old m
   swapped_is old row here held off m = by_row (m == row.number) refl (m == old.number) refl
     where
@@ -118,12 +118,3 @@ module _ (slots : List (Option Slot)) (number : ℕ) (start : Option (List Insn)
           rw (t, u) (ap (λ (h : Bool). one_more h (base_slot slots row.number start)) held ∙ (ap (λ (k : ℕ). one_more true (base_slot slots k start)) here ∙ sym (rw v at b)))
       by_row false t true u = rw (t, u) (ap (one_less old.held) (sym (between_other old.number off)))
       by_row false t false u = rw (t, u) (sym (between_other m (λ is. let v = eq_yes m row.number (is ∙ sym here) in cc)))
-
-pub kept_swapped : (rows' : List (ℕ × Row)) (slots slots' : List (Option Slot)) (ends' : List (SortedMap ℕ)) (lists lists' : Lists) (old row : Row) (program : Option (List Insn)) (next : Option Lists) → AreBooked rows' slots' ends' → AreIds rows'
-    → ((m : ℕ) → slot_at slots' m ≡ slots_swapped slots old row program m) → lists' ≡ lists_after next lists
-    → AreListed (slots_swapped slots old row program) (lists_after next lists).running (lists_after next lists).resting → IsKept rows' slots' ends' lists'
-kept_swapped rows' slots slots' ends' lists lists' old row program next booked ids slots_at is listed = subst (IsKept rows' slots' ends') (sym is) (record {
-  booked = booked;
-  listed = listed_same (slots_swapped slots old row program) (slot_at slots') (lists_after next lists).running (lists_after next lists).resting slots_at listed;
-  ids = ids;
-})

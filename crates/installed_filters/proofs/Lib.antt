@@ -1,5 +1,6 @@
 pub mod Booked
-pub mod Listed
+pub mod Arrived
+pub mod Through
 pub mod Homed
 pub mod Left
 pub mod Lapsed
@@ -21,3 +22,4 @@ pub mod Positions
 pub mod Different
 pub mod Keys
 pub mod Under
+pub mod InPlace

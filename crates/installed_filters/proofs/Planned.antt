@@ -1,5 +1,5 @@
 -- What is planned, and then done.
-use Rattle.std.proofs.Common.{◌≡◌, ◌<◌, ◌≤◌, ◌+◌, ◌==◌, inl, inr, ℕ, zero, suc, Bool, true, false, nat_eq, Option, Some, None, List, [], ◌∷◌, length, Contains, get_or, refl, ap, sym, ◌∙◌, subst, arith}
+use Rattle.std.proofs.Common.{◌≡◌, ◌<◌, ◌≤◌, ◌+◌, ◌==◌, ◌⊎◌, inl, inr, ℕ, zero, suc, Bool, true, false, nat_eq, Option, Some, None, List, [], ◌∷◌, length, Contains, get_or, refl, ap, sym, ◌∙◌, subst, arith}
 use Rattle.std.specs.Prelude.{if◌then◌else◌}
 use Rattle.std.specs.Map.{keys_of, remove_entry}
 use Rattle.std.specs.Global.{Vec}
@@ -16,43 +16,68 @@ use Rattle.installed_filters.specs.declared.lists.Lists.{Lists}
 use Rattle.installed_filters.specs.declared.changes.Change.{Change}
 use Rattle.installed_filters.specs.declared.changes.Change.TheVariants.{Install, Remove, Replace, Lapse, Stay}
 use Rattle.installed_filters.specs.Books.{tally, has_number, holds_number, reaches_by, AreBooked, IsTally, Begins, base_slot}
-use Rattle.installed_filters.specs.Listing.{AreListed}
-use Rattle.installed_filters.specs.Homes.{lists_after, slots_with}
-use Rattle.installed_filters.specs.Leaving.{IsOneOf, slots_without}
-use Rattle.installed_filters.specs.Lapsing.{slots_lapsed}
+use Rattle.installed_filters.specs.Numbering.{Has}
+use Rattle.installed_filters.specs.Listing.{AreListed, AreListedFor, Runs}
+use Rattle.installed_filters.specs.Homes.{AreHoused, program_in, slots_with}
+use Rattle.installed_filters.specs.Leaving.{IsOneOf}
+use Rattle.installed_filters.specs.Lapsing.{AreHeldRows}
 use Rattle.installed_filters.specs.Installed.{Installed, installed, installed_row}
-use Rattle.installed_filters.specs.Planning.{AreIds, IsKept, IsPlanned, IsReadyToCome, IsReadyToGo, IsReadyToLapse, IsReadyToSwap, next_of}
+use Rattle.installed_filters.specs.Planning.{AreIds, HasSlots, IsKept, IsPlanned, IsReadyToCome, IsReadyToGo, IsReadyToSwap, next_of, slots_next}
 use Rattle.installed_filters.proofs.Booked.{eq_yes, held-fewer, number-counted, slot_was}
-use Rattle.installed_filters.proofs.Homed.{listed_same, slot_inside}
+use Rattle.installed_filters.proofs.Arrived.{own_before, runs_before}
+use Rattle.installed_filters.proofs.Homed.{slot_inside}
+use Rattle.installed_filters.proofs.Left.{runs_more, slot_there}
+use Rattle.installed_filters.proofs.Rested.{held_slots, lapse_runs}
+use Rattle.installed_filters.proofs.Through.{listed_alike, listed_once, listed_same, listed_twice, swap_runs}
 use Rattle.installed_filters.proofs.Rows.{adds_removed, booked_slot, found_in, tally-short}
 
 -- Nothing is planned
 
 pub planned_none : (slots : List (Option Slot)) (rows : List (ℕ × Row)) (change : Option Change) → next_of slots rows change ≡ None → change ≡ None
 planned_none slots rows None e = refl
-planned_none slots rows (Some (Install id row program lists)) e = absurd cc
-planned_none slots rows (Some (Remove id row lists)) e = absurd cc
-planned_none slots rows (Some (Replace id old row program lists)) e = absurd cc
-planned_none slots rows (Some (Lapse lapsing lists)) e = absurd cc
+planned_none slots rows (Some (Install id row program)) e = absurd cc
+planned_none slots rows (Some (Remove id row)) e = absurd cc
+planned_none slots rows (Some (Replace id old row program)) e = absurd cc
+planned_none slots rows (Some (Lapse lapsing)) e = absurd cc
 planned_none slots rows (Some Stay) e = absurd cc
 
-pub planned_free : (rows : SortedMap Row) (slots : Slotting) (reaching : Reaching) (lists : Lists) (change : Option Change) → change ≡ None → IsPlanned rows slots reaching lists change
-planned_free rows slots reaching lists change none = subst (IsPlanned rows slots reaching lists) (sym none) tt
+pub planned_free : (rows : SortedMap Row) (slots : Slotting) (reaching : Reaching) (change : Option Change) → change ≡ None → IsPlanned rows slots reaching change
+planned_free rows slots reaching change none = subst (IsPlanned rows slots reaching) (sym none) tt
+
+pub listed_free : (rows : List (ℕ × Row)) (slots : List (Option Slot)) (ends : List (SortedMap ℕ)) (lists : Lists) (change : Option Change) → change ≡ None → IsKept rows slots ends lists change → AreListed (slot_at slots) lists.running lists.resting
+listed_free rows slots ends lists change none h = listed_once (slot_at slots) lists.running lists.resting (subst (λ (x : Option Change). AreListedFor (slot_at slots) (slots_next slots x) lists.running lists.resting) none h.listed)
+
+pub kept_free : (rows : List (ℕ × Row)) (slots : List (Option Slot)) (ends : List (SortedMap ℕ)) (lists : Lists) (change : Option Change) → change ≡ None → AreBooked rows slots ends → AreIds rows → AreListed (slot_at slots) lists.running lists.resting
+    → IsKept rows slots ends lists change
+kept_free rows slots ends lists change none booked ids listed = subst (IsKept rows slots ends lists) (sym none) (record { booked = booked; listed = listed_twice (slot_at slots) lists.running lists.resting listed; ids = ids })
 
 -- Room that is made
 
-pub kept_same : (rows rows' : List (ℕ × Row)) (slots slots' : List (Option Slot)) (ends ends' : List (SortedMap ℕ)) (lists : Lists) → rows' ≡ rows → ((m : ℕ) → slot_at slots' m ≡ slot_at slots m) → ((m q : ℕ) → reach_at ends' m q ≡ reach_at ends m q)
-    → length ends ≤ length ends' → IsKept rows slots ends lists → IsKept rows' slots' ends' lists
-kept_same rows rows' slots slots' ends ends' lists same slots_at reach more h = subst (λ (es : List (ℕ × Row)). IsKept es slots' ends' lists) (sym same) (record {
-  booked = record {
-    filters = λ m. subst (λ (o : Option Slot). IsTally o (tally (has_number m) rows) (tally (holds_number m) rows)) (sym (slots_at m)) (h.booked.filters m);
-    reaches = λ m q. reach m q ∙ h.booked.reaches m q;
-    apart = λ i j s t at at' is. h.booked.apart i j s t (sym (slots_at i) ∙ at) (sym (slots_at j) ∙ at') is;
-    inside = λ m s at. (slot_inside slots' m s at, (let low = (h.booked.inside m s (sym (slots_at m) ∙ at)).1 in omega arith));
-  };
-  listed = listed_same (slot_at slots) (slot_at slots') lists.running lists.resting slots_at h.listed;
-  ids = h.ids;
+pub booked_same : (rows rows' : List (ℕ × Row)) (slots slots' : List (Option Slot)) (ends ends' : List (SortedMap ℕ)) → rows' ≡ rows → ((m : ℕ) → slot_at slots' m ≡ slot_at slots m) → ((m q : ℕ) → reach_at ends' m q ≡ reach_at ends m q)
+    → length ends ≤ length ends' → AreBooked rows slots ends → AreBooked rows' slots' ends'
+booked_same rows rows' slots slots' ends ends' same slots_at reach more h = subst (λ (es : List (ℕ × Row)). AreBooked es slots' ends') (sym same) (record {
+  filters = λ m. subst (λ (o : Option Slot). IsTally o (tally (has_number m) rows) (tally (holds_number m) rows)) (sym (slots_at m)) (h.filters m);
+  reaches = λ m q. reach m q ∙ h.reaches m q;
+  apart = λ i j s t at at' is. h.apart i j s t (sym (slots_at i) ∙ at) (sym (slots_at j) ∙ at') is;
+  inside = λ m s at. (slot_inside slots' m s at, (let low = (h.inside m s (sym (slots_at m) ∙ at)).1 in omega arith));
 })
+
+-- what is kept with room made, where nothing is planned
+pub still_free : (rows rows' : SortedMap Row) (slots slots' : Slotting) (reaching reaching' : Reaching) (lists lists' : Lists) (change : Option Change) → change ≡ None → rows'.entries ≡ rows.entries → ((m : ℕ) → slot_at slots'.slots m ≡ slot_at slots.slots m)
+    → ((m q : ℕ) → reach_at reaching'.ends m q ≡ reach_at reaching.ends m q) → length reaching.ends ≤ length reaching'.ends → IsKept rows.entries slots.slots reaching.ends lists change → AreListed (slot_at slots'.slots) lists'.running lists'.resting
+    → IsKept rows'.entries slots'.slots reaching'.ends lists' change × IsPlanned rows' slots' reaching' change
+still_free rows rows' slots slots' reaching reaching' lists lists' change none same slots_at reach more h listed = (
+  kept_free rows'.entries slots'.slots reaching'.ends lists' change none (booked_same rows.entries rows'.entries slots.slots slots'.slots reaching.ends reaching'.ends same slots_at reach more h.booked) (subst AreIds (sym same) h.ids) listed,
+  planned_free rows' slots' reaching' change none,
+)
+
+-- the lists with room made
+pub listed_room : (rows : List (ℕ × Row)) (slots slots' : List (Option Slot)) (ends : List (SortedMap ℕ)) (lists : Lists) (change : Option Change) → change ≡ None → ((m : ℕ) → slot_at slots' m ≡ slot_at slots m) → IsKept rows slots ends lists change
+    → AreListed (slot_at slots') lists.running lists.resting
+listed_room rows slots slots' ends lists change none same h = listed_same (slot_at slots) (slot_at slots') lists.running lists.resting same (listed_free rows slots ends lists change none h)
+
+pub housed : (rows : List (ℕ × Row)) (slots : List (Option Slot)) (ends : List (SortedMap ℕ)) (lists : Lists) (change : Option Change) → change ≡ None → IsKept rows slots ends lists change → AreHoused slots ends lists
+housed rows slots ends lists change none h = record { listed = listed_free rows slots ends lists change none h; apart = h.booked.apart; numbers = λ m s at. (h.booked.inside m s at).1 }
 
 -- A filter that comes
 
@@ -144,52 +169,77 @@ row_inside rows slots ends id row booked at = let s = booked_slot rows slots end
 
 -- What was planned is done
 
-pub come : (rows : SortedMap Row) (slots : Slotting) (reaching : Reaching) (lists : Lists) (change : Option Change) (id : ℕ) (row : Row) (program : Option (List Insn)) (next : Option Lists) → change ≡ Some (Install id row program next) → IsPlanned rows slots reaching lists change
-    → IsReadyToCome rows slots reaching lists id row program next
-come rows slots reaching lists change id row program next is h = subst (IsPlanned rows slots reaching lists) is h
+pub come : (rows : SortedMap Row) (slots : Slotting) (reaching : Reaching) (change : Option Change) (id : ℕ) (row : Row) (program : Option (List Insn)) → change ≡ Some (Install id row program) → IsPlanned rows slots reaching change → IsReadyToCome rows slots reaching id row program
+come rows slots reaching change id row program is h = subst (IsPlanned rows slots reaching) is h
 
-pub goes : (rows : SortedMap Row) (slots : Slotting) (reaching : Reaching) (lists : Lists) (change : Option Change) (id : ℕ) (row : Row) (next : Option Lists) → change ≡ Some (Remove id row next) → IsPlanned rows slots reaching lists change
-    → IsReadyToGo rows slots lists id row next
-goes rows slots reaching lists change id row next is h = subst (IsPlanned rows slots reaching lists) is h
+pub goes : (rows : SortedMap Row) (slots : Slotting) (reaching : Reaching) (change : Option Change) (id : ℕ) (row : Row) → change ≡ Some (Remove id row) → IsPlanned rows slots reaching change → IsReadyToGo rows slots id row
+goes rows slots reaching change id row is h = subst (IsPlanned rows slots reaching) is h
 
-held_with : (slots slots' : List (Option Slot)) (row : Row) (program : Option (List Insn)) → row.held ≡ true → ((m : ℕ) → slot_at slots' m ≡ (if m == row.number then one_more row.held (base_slot slots row.number program) else slot_at slots m))
+pub swaps : (rows : SortedMap Row) (slots : Slotting) (reaching : Reaching) (change : Option Change) (id : ℕ) (old row : Row) (program : Option (List Insn)) → change ≡ Some (Replace id old row program) → IsPlanned rows slots reaching change
+    → IsReadyToSwap rows slots reaching id old row program
+swaps rows slots reaching change id old row program is h = subst (IsPlanned rows slots reaching) is h
+
+pub lapse : (rows : SortedMap Row) (slots : Slotting) (reaching : Reaching) (change : Option Change) (lapsing : Vec (ℕ × Row)) → change ≡ Some (Lapse lapsing) → IsPlanned rows slots reaching change → AreHeldRows rows.entries lapsing.items
+lapse rows slots reaching change lapsing is h = subst (IsPlanned rows slots reaching) is h
+
+-- the lists that a change is planned with
+pub next_listed : (slots : List (Option Slot)) (lists : Lists) (change change' : Change) → change ≡ change' → AreListedFor (slot_at slots) (slots_next slots (Some change)) lists.running lists.resting → AreListedFor (slot_at slots) (slots_next slots (Some change')) lists.running lists.resting
+next_listed slots lists change change' is h = subst (λ (x : Change). AreListedFor (slot_at slots) (slots_next slots (Some x)) lists.running lists.resting) is h
+
+pub held_with : (slots slots' : List (Option Slot)) (row : Row) (program : Option (List Insn)) → row.held ≡ true → ((m : ℕ) → slot_at slots' m ≡ (if m == row.number then one_more row.held (base_slot slots row.number program) else slot_at slots m))
     → (m : ℕ) → slot_at slots' m ≡ slots_with slots row.number program m
 held_with slots slots' row program held slots_at m = slots_at m ∙ ap (λ (b : Bool). (if m == row.number then one_more b (base_slot slots row.number program) else slot_at slots m)) held
 
-pub kept_with : (rows' : List (ℕ × Row)) (slots slots' : List (Option Slot)) (ends' : List (SortedMap ℕ)) (lists lists' : Lists) (row : Row) (program : Option (List Insn)) (next : Option Lists) → row.held ≡ true → AreBooked rows' slots' ends' → AreIds rows'
-    → ((m : ℕ) → slot_at slots' m ≡ (if m == row.number then one_more row.held (base_slot slots row.number program) else slot_at slots m)) → lists' ≡ lists_after next lists
-    → AreListed (slots_with slots row.number program) (lists_after next lists).running (lists_after next lists).resting → IsKept rows' slots' ends' lists'
-kept_with rows' slots slots' ends' lists lists' row program next held booked ids slots_at is listed = subst (IsKept rows' slots' ends') (sym is) (record {
+pub kept_after : (rows' : List (ℕ × Row)) (slots' : List (Option Slot)) (ends' : List (SortedMap ℕ)) (lists' : Lists) (next : ℕ → Option Slot) → AreBooked rows' slots' ends' → AreIds rows' → ((m : ℕ) → slot_at slots' m ≡ next m) → AreListed next lists'.running lists'.resting
+    → IsKept rows' slots' ends' lists' None
+kept_after rows' slots' ends' lists' next booked ids same h = record {
   booked = booked;
-  listed = listed_same (slots_with slots row.number program) (slot_at slots') (lists_after next lists).running (lists_after next lists).resting (held_with slots slots' row program held slots_at) listed;
+  listed = listed_alike next (slot_at slots') next (slot_at slots') lists'.running lists'.resting same same (listed_twice next lists'.running lists'.resting h);
   ids = ids;
-})
+}
 
-pub kept_without : (rows' : List (ℕ × Row)) (slots slots' : List (Option Slot)) (ends' : List (SortedMap ℕ)) (lists lists' : Lists) (row : Row) (next : Option Lists) → AreBooked rows' slots' ends' → AreIds rows'
-    → ((m : ℕ) → slot_at slots' m ≡ slots_without slots row m) → lists' ≡ lists_after next lists
-    → AreListed (slots_without slots row) (lists_after next lists).running (lists_after next lists).resting → IsKept rows' slots' ends' lists'
-kept_without rows' slots slots' ends' lists lists' row next booked ids slots_at is listed = subst (IsKept rows' slots' ends') (sym is) (record {
-  booked = booked;
-  listed = listed_same (slots_without slots row) (slot_at slots') (lists_after next lists).running (lists_after next lists).resting slots_at listed;
-  ids = ids;
-})
+-- the slots that a change needs
+pub has_slots : (rows : SortedMap Row) (slots : Slotting) (reaching : Reaching) (change : Option Change) → AreBooked rows.entries slots.slots reaching.ends → IsPlanned rows slots reaching change → HasSlots slots.slots change
+has_slots rows slots reaching None booked h = tt
+has_slots rows slots reaching (Some (Install id row program)) booked h = h.begins
+has_slots rows slots reaching (Some (Remove id row)) booked h = one_of rows.entries slots.slots reaching.ends id row booked h.there
+has_slots rows slots reaching (Some (Replace id old row program)) booked h = (h.begins, one_of rows.entries slots.slots reaching.ends id old booked h.there, h.other, ap (λ (r : Row). r.held) h.same ∙ h.held, h.slot)
+has_slots rows slots reaching (Some (Lapse lapsing)) booked h = held_slots rows.entries slots.slots reaching.ends lapsing.items booked h
+has_slots rows slots reaching (Some Stay) booked h = tt
 
-pub swaps : (rows : SortedMap Row) (slots : Slotting) (reaching : Reaching) (lists : Lists) (change : Option Change) (id : ℕ) (old row : Row) (program : Option (List Insn)) (next : Option Lists) → change ≡ Some (Replace id old row program next) → IsPlanned rows slots reaching lists change
-    → IsReadyToSwap rows slots reaching lists id old row program next
-swaps rows slots reaching lists change id old row program next is h = subst (IsPlanned rows slots reaching lists) is h
+-- A program that runs is that of the number, if a filter has the number
 
-pub lapse : (rows : SortedMap Row) (slots : Slotting) (reaching : Reaching) (lists : Lists) (change : Option Change) (lapsing : Vec (ℕ × Row)) (next : Option Lists) → change ≡ Some (Lapse lapsing next) → IsPlanned rows slots reaching lists change
-    → IsReadyToLapse rows slots lists lapsing.items next
-lapse rows slots reaching lists change lapsing next is h = subst (IsPlanned rows slots reaching lists) is h
+module _ (rows : SortedMap Row) (slots : Slotting) (reaching : Reaching) (booked : AreBooked rows.entries slots.slots reaching.ends) where
+  own_now : (m : ℕ) (p : List Insn) → Runs (slot_at slots.slots) m p → (m < length reaching.ends) × ((s : Slot) → slot_at slots.slots m ≡ Some s → s.program ≡ p)
+  own_now m p x = ((booked.inside m x.0 x.1).1, λ s at. ap (λ (y : Slot). y.program) (one_slot s x.0 (sym at ∙ x.1)) ∙ x.2)
+    where
+      one_slot : (a b : Slot) → Some a ≡ Some b → a ≡ b
+      one_slot a b e = cc
 
-pub kept_lapsed : (rows' : List (ℕ × Row)) (slots slots' : List (Option Slot)) (ends' : List (SortedMap ℕ)) (lists lists' : Lists) (lapsing : List (ℕ × Row)) (next : Option Lists) → AreBooked rows' slots' ends' → AreIds rows'
-    → ((m : ℕ) → slot_at slots' m ≡ slots_lapsed slots lapsing m) → lists' ≡ lists_after next lists
-    → AreListed (slots_lapsed slots lapsing) (lists_after next lists).running (lists_after next lists).resting → IsKept rows' slots' ends' lists'
-kept_lapsed rows' slots slots' ends' lists lists' lapsing next booked ids slots_at is listed = subst (IsKept rows' slots' ends') (sym is) (record {
-  booked = booked;
-  listed = listed_same (slots_lapsed slots lapsing) (slot_at slots') (lists_after next lists).running (lists_after next lists).resting slots_at listed;
-  ids = ids;
-})
+  own_coming : (number : ℕ) (program : Option (List Insn)) → Begins slots.slots number program → number < length reaching.ends → (m : ℕ) (p : List Insn) → Runs (slot_at slots.slots) m p ⊎ ((m ≡ number) × (p ≡ program_in (base_slot slots.slots number program)))
+      → (m < length reaching.ends) × ((s : Slot) → slot_at slots.slots m ≡ Some s → s.program ≡ p)
+  own_coming number program begins low m p (inl was) = own_now m p was
+  own_coming number program begins low m p (inr new) = (
+    subst (λ (k : ℕ). k < length reaching.ends) (sym new.0) low,
+    λ s at. own_before slots.slots number program begins s (sym (ap (slot_at slots.slots) new.0) ∙ at) ∙ sym new.1,
+  )
+
+  own_next : (change : Option Change) → IsPlanned rows slots reaching change → (m : ℕ) (p : List Insn) → Runs (slots_next slots.slots change) m p → (m < length reaching.ends) × ((s : Slot) → slot_at slots.slots m ≡ Some s → s.program ≡ p)
+  own_next None h m p x = own_now m p x
+  own_next (Some (Install id row program)) h m p x = own_coming row.number program h.begins h.number m p (runs_before slots.slots row.number program h.begins m p x)
+  own_next (Some (Remove id row)) h m p x =
+      let one = one_of rows.entries slots.slots reaching.ends id row booked h.there in
+      let s = slot_there (slot_at slots.slots row.number) row.held one in
+      own_now m p (runs_more slots.slots row booked.apart s.0 s.1 (subst (λ (o : Option Slot). IsOneOf o row.held) s.1 one) m p x)
+  own_next (Some (Replace id old row program)) h m p x =
+      let one = one_of rows.entries slots.slots reaching.ends id old booked h.there in
+      own_coming row.number program h.begins h.number m p (swap_runs slots.slots row.number program h.begins booked.apart h.slot old row refl (ap (λ (r : Row). r.held) h.same ∙ h.held) h.other one m p x)
+  own_next (Some (Lapse lapsing)) h m p x = own_now m p (lapse_runs slots.slots lapsing.items m p x)
+  own_next (Some Stay) h m p x = own_now m p x
+
+  pub running_own : (lists : Lists) (change : Option Change) → IsPlanned rows slots reaching change → AreListedFor (slot_at slots.slots) (slots_next slots.slots change) lists.running lists.resting
+      → (m : ℕ) (p : List Insn) → Has lists.running m p → (m < length reaching.ends) × ((s : Slot) → slot_at slots.slots m ≡ Some s → s.program ≡ p)
+  running_own lists change h listed m p has = elim ((listed.run m p).0 has) [ inl now ↦ own_now m p now | inr next ↦ own_next change h m p next ]
 
 one_next : (a b : List Installed) → Some a ≡ Some b → a ≡ b
 one_next a b e = cc

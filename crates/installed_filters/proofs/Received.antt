@@ -14,15 +14,14 @@ use Rattle.filter_table.proofs.Lists.{in_head, in_tail, in_map, was_mapped}
 use Rattle.chunked.specs.Maps.{SortedMap}
 use Rattle.installed_filters.specs.declared.slots.Slot.{Slot}
 use Rattle.installed_filters.specs.Slotting.{slot_at}
-use Rattle.installed_filters.specs.Numbering.{AreHitsBy}
+use Rattle.installed_filters.specs.Numbering.{AreHitsBy, Has, Numbering}
 use Rattle.installed_filters.specs.Counts.{AreWithin, counted, reach_at}
 use Rattle.installed_filters.specs.Keeping.{AreApart, AreKept, GetsBy, Keeps}
 use Rattle.installed_filters.specs.declared.books.Row.{Row}
-use Rattle.installed_filters.specs.declared.lists.Lists.{Lists}
-use Rattle.installed_filters.specs.Books.{tally, has_number, holds_number, reaches_by, IsTally}
+use Rattle.installed_filters.specs.Books.{AreBooked, tally, has_number, holds_number, reaches_by, IsTally}
+use Rattle.installed_filters.specs.Listing.{Runs}
 use Rattle.installed_filters.specs.Homes.{program_in}
 use Rattle.installed_filters.specs.Installed.{Installed, AreHeldBy, installed, installed_row}
-use Rattle.installed_filters.specs.Planning.{IsKept}
 use Rattle.installed_filters.proofs.Booked.{eq_yes, yes_eq}
 use Rattle.installed_filters.proofs.Rows.{booked_slot, tally_some}
 
@@ -50,12 +49,10 @@ was_held : (b : Bool) → not b ≡ false → b ≡ true
 was_held true e = refl
 was_held false e = absurd cc
 
-module _ (rows : List (ℕ × Row)) (slots : List (Option Slot)) (ends : List (SortedMap ℕ)) (lists : Lists) (kept : IsKept rows slots ends lists) (packet : Packet) (hits : List Hit) (are : AreHitsBy lists.running packet hits) where
+module _ (rows : List (ℕ × Row)) (slots : List (Option Slot)) (ends : List (SortedMap ℕ)) (booked : AreBooked rows slots ends) (running : Numbering) (runs : (m : ℕ) (p : List Insn) → Runs (slot_at slots) m p → Has running m p)
+    (own : (m : ℕ) (p : List Insn) → Has running m p → (m < length ends) × ((s : Slot) → slot_at slots m ≡ Some s → s.program ≡ p)) (packet : Packet) (hits : List Hit) (are : AreHitsBy running packet hits) where
   pub hits_within : AreWithin ends hits
-  hits_within i hit at =
-      let e = are.each i hit at in
-      let r = (kept.listed.run hit.member e.1.0).0 e.1.1 in
-      (kept.booked.inside hit.member r.0 r.1).1
+  hits_within i hit at = let e = are.each i hit at in (own hit.member e.1.0 e.1.1).0
 
   pub hits_apart : AreApart hits
   hits_apart = record { once = are.once; above = λ i hit at. (are.each i hit at).0 }
@@ -69,13 +66,13 @@ module _ (rows : List (ℕ × Row)) (slots : List (Option Slot)) (ends : List (S
         let hit = g.0 in
         let at = at_contains hits hit g.1 in
         let h = are.each at.0 hit at.1 in
-        let r = (kept.listed.run hit.member h.1.0).0 h.1.1 in
-        let live = tally_found (reaches_by hit.member e) rows (some_counted (tally (reaches_by hit.member e) rows) (ap is_some (sym (kept.booked.reaches hit.member e)) ∙ g.2)) in
+        let live = tally_found (reaches_by hit.member e) rows (some_counted (tally (reaches_by hit.member e) rows) (ap is_some (sym (booked.reaches hit.member e)) ∙ g.2)) in
         let row = live.0.1 in
         let t = both row.held ((row.number == hit.member) && (row.endpoint == e)) live.2 in
         let u = both (row.number == hit.member) (row.endpoint == e) t.1 in
+        let s = booked_slot rows slots ends booked live.0 live.1 in
         let program : (installed_row slots live.0).filter.program ≡ h.1.0 =
-        ap (λ (m : ℕ). program_in (slot_at slots m)) (yes_eq row.number hit.member u.0) ∙ (ap program_in r.1 ∙ r.2) in
+        ap program_in s.1 ∙ (own hit.member h.1.0 h.1.1).1 s.0 (ap (slot_at slots) (sym (yes_eq row.number hit.member u.0)) ∙ s.1) in
         record {
           accepted_by = (installed_row slots live.0).filter;
           listed = in_map (λ (f : Installed). f.filter) (installed slots rows) (installed_row slots live.0) (in_map (installed_row slots) rows live.0 live.1);
@@ -94,11 +91,11 @@ module _ (rows : List (ℕ × Row)) (slots : List (Option Slot)) (ends : List (S
         let filter_is : (installed_row slots x.0).filter ≡ h.accepted_by = ap (λ (y : Installed). y.filter) x.2 ∙ f.2 in
         let live : row.held ≡ true =
         was_held row.held (sym (held (installed_row slots x.0) (in_map (installed_row slots) rows x.0 x.1)) ∙ (ap (λ (y : ListedFilter). is_none (cap_at caps y.cap)) filter_is ∙ h.cap_held)) in
-        let s = booked_slot rows slots ends kept.booked x.0 x.1 in
-        let tallied = subst (λ (o : Option Slot). IsTally o (tally (has_number row.number) rows) (tally (holds_number row.number) rows)) s.1 (kept.booked.filters row.number) in
+        let s = booked_slot rows slots ends booked x.0 x.1 in
+        let tallied = subst (λ (o : Option Slot). IsTally o (tally (has_number row.number) rows) (tally (holds_number row.number) rows)) s.1 (booked.filters row.number) in
         let some : 0 < tally (holds_number row.number) rows = tally_some (holds_number row.number) rows x.0 x.1 (rw live (eq_yes row.number row.number refl)) in
         let count = tallied.1 in
-        let listed = (kept.listed.run row.number s.0.program).1 (s.0, s.1, refl, omega (arith, some, count)) in
+        let listed = runs row.number s.0.program (s.0, s.1, refl, omega (arith, some, count)) in
         let program : h.accepted_by.program ≡ s.0.program = sym (ap (λ (y : ListedFilter). y.program) filter_is) ∙ ap program_in s.1 in
         let ends_there : Ends s.0.program packet v h.steps = subst (λ (p : List Insn). Ends p packet v h.steps) program h.ends in
         let endpoint : row.endpoint ≡ e = ap (λ (y : ListedFilter). y.endpoint) filter_is ∙ h.of_endpoint in
@@ -108,14 +105,12 @@ module _ (rows : List (ℕ × Row)) (slots : List (Option Slot)) (ends : List (S
           | inl found ↦
               let at = at_contains hits found.0 found.1 in
               let each = are.each at.0 found.0 at.1 in
-              let r = (kept.listed.run found.0.member each.1.0).0 each.1.1 in
-              let same : r.0 ≡ s.0 = one r.0 s.0 (sym r.1 ∙ (ap (slot_at slots) found.2 ∙ s.1)) in
-              let same_program : each.1.0 ≡ s.0.program = sym r.2 ∙ ap (λ (y : Slot). y.program) same in
+              let same_program : each.1.0 ≡ s.0.program = sym ((own found.0.member each.1.0 each.1.1).1 s.0 (ap (slot_at slots) found.2 ∙ s.1)) in
               let verdict : found.0.verdict ≡ v =
               (Ends-same s.0.program packet found.0.verdict each.1.2.0 v h.steps (subst (λ (p : List Insn). Ends p packet found.0.verdict each.1.2.0) same_program each.1.2.1) ends_there).0 in (
                 found.0,
                 found.1,
-                ap (λ (m : ℕ). is_some (reach_at ends m e)) found.2 ∙ (ap is_some (kept.booked.reaches row.number e) ∙ counted_some (tally (reaches_by row.number e) rows) reach),
+                ap (λ (m : ℕ). is_some (reach_at ends m e)) found.2 ∙ (ap is_some (booked.reaches row.number e) ∙ counted_some (tally (reaches_by row.number e) rows) reach),
                 verdict,
               )
           | inr silent ↦ absurd (
@@ -123,9 +118,6 @@ module _ (rows : List (ℕ × Row)) (slots : List (Option Slot)) (ends : List (S
               let above = h.above_zero in
               omega (arith, none, above))
         ]
-      where
-        one : (a b : Slot) → Some a ≡ Some b → a ≡ b
-        one a b e = cc
 
     pub received : (now : List Kept) → AreKept (GetsBy ends hits) (length packet.bytes) now → AreReceivers caps (map (λ f. f.filter) (installed slots rows)) packet now
     received now h = record {

@@ -19,10 +19,9 @@ abbrev pub program_in : Option Slot → List Insn
 program_in None = []
 program_in (Some s) = s.program
 
--- the lists afterwards, if they are others
-abbrev pub lists_after : Option Lists → Lists → Lists
-lists_after None lists = lists
-lists_after (Some others) lists = others
+abbrev pub held_in : Option Slot → ℕ
+held_in None = 0
+held_in (Some s) = s.held
 
 -- the slots once a filter came whose capability is held
 abbrev pub slots_with : List (Option Slot) → ℕ → Option (List Insn) → ℕ → Option Slot
@@ -41,9 +40,8 @@ pub record HaveGrown (slots slots' : List (Option Slot)) (ends ends' : List (Sor
   pub more : length ends ≤ length ends'
 
 -- the program is kept there, or will be
-pub record IsHome (slots : List (Option Slot)) (ends : ℕ) (lists : Lists) (program : List Insn) (home : Home) : Type 0 where
+pub record IsHome (slots : List (Option Slot)) (ends : ℕ) (program : List Insn) (home : Home) : Type 0 where
   pub begins : Begins slots home.number home.program
   pub own : program_in (base_slot slots home.number home.program) ≡ program
   pub inside : home.number < length slots
   pub number : home.number < ends
-  pub listed : AreListed (slots_with slots home.number home.program) (lists_after home.lists lists).running (lists_after home.lists lists).resting

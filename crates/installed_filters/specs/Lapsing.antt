@@ -1,6 +1,6 @@
 -- Filters whose capability isn't held any more.
 -- No public clause cites these.
-use Rattle.std.specs.Prelude.{◌≡◌, ◌&&◌, ◌-◌, ◌<◌, ◌≤◌, ℕ, Bool, true, Option, Some, None, is_some, List}
+use Rattle.std.specs.Prelude.{◌≡◌, ◌&&◌, ◌-◌, ◌<◌, ◌≤◌, ◌⊎◌, ℕ, Bool, true, Option, Some, None, is_some, List}
 use Rattle.std.specs.List.{Contains}
 use Rattle.std.specs.List.Sorted.{IsStrictlyIncreasing}
 use Rattle.std.specs.Map.{keys_of}
@@ -8,8 +8,12 @@ use Rattle.chunked.specs.Maps.{value_at}
 use Rattle.installed_filters.specs.declared.slots.Slot.{Slot}
 use Rattle.installed_filters.specs.Slotting.{slot_at}
 use Rattle.installed_filters.specs.Counts.{number_of}
+use Rattle.bpf_insn.specs.declared.insn.Insn.{Insn}
 use Rattle.installed_filters.specs.declared.books.Row.{Row}
 use Rattle.installed_filters.specs.Books.{tally, has_number}
+use Rattle.installed_filters.specs.Homes.{program_in}
+use Rattle.installed_filters.specs.Listing.{Rests}
+use Rattle.installed_filters.specs.Numbering.{Numbering, Has}
 
 -- the filter's capability is held, and goes with these
 abbrev pub lapses : {V : Type 0} → List (ℕ × V) → Row → Bool
@@ -41,3 +45,21 @@ HoldsMore slot count = (s : Slot) × (slot ≡ Some s) × (count < s.held)
 -- each filter is one of those that its slot counts as held
 abbrev pub AreCountedHeld : List (Option Slot) → List (ℕ × Row) → Type 0
 AreCountedHeld slots lapsing = (e : ℕ × Row) → Contains lapsing e → (s : Slot) × (slot_at slots e.1.number ≡ Some s) × (tally (has_number e.1.number) lapsing ≤ s.held)
+
+-- the program of a number that one of these filters has
+abbrev pub IsOfOne : List (Option Slot) → List (ℕ × Row) → ℕ → List Insn → Type 0
+IsOfOne slots lapsing number program = (e : ℕ × Row) × Contains lapsing e × (e.1.number ≡ number) × (program_in (slot_at slots number) ≡ program)
+
+-- the programs that rest are listed, and maybe some that these filters have
+pub record AreRestingOr (slots : List (Option Slot)) (lapsing : List (ℕ × Row)) (resting : Numbering) : Type 0 where
+  pub all : (number : ℕ) (program : List Insn) → Rests (slot_at slots) number program → Has resting number program
+  pub others : (number : ℕ) (program : List Insn) → Has resting number program → Rests (slot_at slots) number program ⊎ IsOfOne slots lapsing number program
+
+-- the program of each of these filters runs
+abbrev pub AreOfHeld : List (Option Slot) → List (ℕ × Row) → Type 0
+AreOfHeld slots lapsing = (e : ℕ × Row) → Contains lapsing e → (s : Slot) × (slot_at slots e.1.number ≡ Some s) × (0 < s.held)
+
+-- the slot's program has no filter whose capability is held
+abbrev pub IsUnheld : Option Slot → Type 0
+IsUnheld None = ⊥
+IsUnheld (Some s) = s.held ≡ 0

@@ -21,7 +21,16 @@ Runs slots number program = (s : Slot) × (slots number ≡ Some s) × (s.progra
 abbrev pub Rests : (ℕ → Option Slot) → ℕ → List Insn → Type 0
 Rests slots number program = (s : Slot) × (slots number ≡ Some s) × (s.program ≡ program) × (s.held ≡ 0)
 
+-- the programs with these numbers are listed, and no others
+abbrev pub AreThose : Numbering → (ℕ → List Insn → Type 0) → Type 0
+AreThose n those = (number : ℕ) (program : List Insn) → Has n number program ↔ those number program
+
 -- these run, and these rest
 pub record AreListed (slots : ℕ → Option Slot) (running resting : Numbering) : Type 0 where
-  pub run : (number : ℕ) (program : List Insn) → Has running number program ↔ Runs slots number program
-  pub rest : (number : ℕ) (program : List Insn) → Has resting number program ↔ Rests slots number program
+  pub run : AreThose running (Runs slots)
+  pub rest : AreThose resting (Rests slots)
+
+-- these run before a change or after it, and these rest before it or after it
+pub record AreListedFor (now next : ℕ → Option Slot) (running resting : Numbering) : Type 0 where
+  pub run : AreThose running (λ number program. Runs now number program ⊎ Runs next number program)
+  pub rest : AreThose resting (λ number program. Rests now number program ⊎ Rests next number program)

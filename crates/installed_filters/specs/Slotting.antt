@@ -1,6 +1,6 @@
 -- Of each number its program, and how many filters have it.
 -- No public clause cites these.
-use Rattle.std.specs.Prelude.{◌≡◌, ◌+◌, ◌-◌, ◌<◌, ◌≤◌, ℕ, Bool, true, false, IsTrue, Option, Some, None, is_some, List, length, slice_index_or, ◌==◌, if◌then◌else◌}
+use Rattle.std.specs.Prelude.{◌≡◌, ◌+◌, ◌-◌, ◌<◌, ◌≤◌, ℕ, Bool, true, false, IsTrue, Option, Some, None, is_some, List, length, ltb, slice_index_or, ◌==◌, if◌then◌else◌}
 use Rattle.bpf_insn.specs.declared.insn.Insn.{Insn}
 use Rattle.chunked.specs.Maps.{value_at}
 use Rattle.installed_filters.specs.declared.slots.Slot.{Slot}
@@ -16,6 +16,11 @@ slot_at slots number = slice_index_or slots number None
 abbrev pub one : Bool → ℕ
 one true = 1
 one false = 0
+
+-- a filter has the program whose capability is held
+abbrev pub is_held : Option Slot → Bool
+is_held None = false
+is_held (Some s) = ltb 0 s.held
 
 -- a program that no filter has yet
 abbrev pub new_slot : List Insn → Slot

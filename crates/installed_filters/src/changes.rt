@@ -1,20 +1,25 @@
 //! Changes of filters that are planned, for which there is room.
-ghost use Rattle.std.specs.Prelude.{◌≡◌, ◌==◌, ◌<◌, ◌++◌, ◌∷◌, [], ℕ, Some, IsTrue, if◌then◌else◌, map, nat_eq, true, length};
+ghost use Rattle.std.specs.Prelude.{◌≡◌, ◌==◌, ◌<◌, ◌++◌, ◌∷◌, [], ℕ, None, Some, IsTrue, if◌then◌else◌, map, nat_eq, true, length};
 ghost use Rattle.std.specs.List.{Contains};
 ghost use Rattle.std.specs.List.Sorted.{IsStrictlyIncreasing};
 ghost use Rattle.std.specs.Map.{keys_of, remove_entry, set_value};
 ghost use Rattle.chunked.specs.Maps.{value_at};
 ghost use Rattle.installed_filters.specs.Slotting.{slot_at, HasOne, HasRoomIn, one_lapsed, one_more, one_less};
 ghost use Rattle.installed_filters.specs.Books.{AreBooked, Begins, HasReachRoom, IsTaken, base_slot, lapsed_row};
-ghost use Rattle.installed_filters.specs.Homes.{lists_after};
+ghost use Rattle.installed_filters.specs.Homes.{AreProgramsApart};
 ghost use Rattle.installed_filters.specs.Installed.{installed, lapsed_by};
 ghost use Rattle.installed_filters.specs.Lapsing.{AreHeldRows, slots_lapsed};
-ghost use Rattle.installed_filters.specs.Planning.{IsKept, IsPlanned, next_of, slots_swapped};
+ghost use Rattle.installed_filters.specs.Listing.{AreListed, AreListedFor, AreThose, Runs};
+ghost use Rattle.installed_filters.specs.Planning.{HasSlots, IsKept, IsPlanned, next_of, slots_next, slots_swapped};
 ghost use Rattle.installed_filters.specs.declared.books.Row.{Row as GhostRow};
 
 use crate::books::{Row, lapse, put, swap, take};
 use crate::by_id::Rows;
-use crate::lists::{Lists, NextLists};
+use crate::coming::take_new;
+use crate::lapsing::{stop_unheld, wake_all};
+use crate::leaving::{leave, wake};
+use crate::lists::Lists;
+use crate::numbered::Numbered;
 use crate::reaches::Reaches;
 use crate::slots::Slots;
 use filter_group::Shared;
@@ -28,13 +33,11 @@ pub(crate) enum Change {
         row: Row,
         /// Its program, if no filter has it yet.
         program: Option<Shared>,
-        next: Option<NextLists>,
     },
     /// A filter goes.
     Remove {
         id: u32,
         row: Row,
-        next: Option<NextLists>,
     },
     /// A filter gets a program whose number is another.
     Replace {
@@ -43,13 +46,11 @@ pub(crate) enum Change {
         row: Row,
         /// Its program, if no filter has it yet.
         program: Option<Shared>,
-        next: Option<NextLists>,
     },
     /// The capability of filters isn't held any more.
     Lapse {
         /// The filters that were held, each with its id.
         lapsing: Vec<(u64, Row)>,
-        next: Option<NextLists>,
     },
     /// A filter gets the program that it has.
     Stay,
@@ -63,40 +64,73 @@ pub(crate) fn carry_out(
     lists: &mut Lists,
     change: Change,
 )
-    requires kept { IsKept rows.old.entries slots.old.slots reaches.old.ends lists.old }
-    requires planned { IsPlanned rows.old slots.old reaches.old lists.old (Some change) }
-    ensures kept { IsKept rows.new.entries slots.new.slots reaches.new.ends lists.new }
+    requires kept { IsKept rows.old.entries slots.old.slots reaches.old.ends lists.old (Some change) }
+    requires planned { IsPlanned rows.old slots.old reaches.old (Some change) }
+    ensures kept { IsKept rows.new.entries slots.new.slots reaches.new.ends lists.new None }
     ensures filters { next_of slots.old.slots rows.old.entries (Some change) ≡ Some (installed slots.new.slots rows.new.entries) }
 {
     let _count = rows.len();
     match change {
-        Change::Install {
-            id,
-            row,
-            program,
-            next,
-        } => {
+        Change::Install { id, row, program } => {
+            take_new(slots, &mut lists.resting, row.number, &program);
             install(rows, slots, reaches, id, row, program);
-            follow(lists, next);
         }
-        Change::Remove { id, row, next } => {
+        Change::Remove { id, row } => {
+            leave(slots, lists, row);
             remove(rows, slots, reaches, id, row);
-            follow(lists, next);
         }
         Change::Replace {
             id,
             old,
             row,
             program,
-            next,
         } => {
+            take_new(slots, &mut lists.resting, row.number, &program);
+            leave(slots, lists, old);
             replace(rows, slots, reaches, id, old, row, program);
-            follow(lists, next);
         }
-        Change::Lapse { lapsing, next } => {
-            lapse_all(rows, slots, reaches, &lapsing);
-            follow(lists, next);
+        Change::Lapse { lapsing } => {
+            lapse_all(rows, slots, reaches, &mut lists.running, &lapsing);
         }
+        Change::Stay => {}
+    }
+}
+
+/// Takes out of the lists what a change put in, if one is planned. Takes no memory.
+pub(crate) fn take_back(slots: &Slots, lists: &mut Lists, change: &Option<Change>)
+    requires apart { AreProgramsApart slots.now.slots }
+    requires slots { HasSlots slots.now.slots change.now }
+    requires listed { AreListedFor (slot_at slots.now.slots) (slots_next slots.now.slots change.now) lists.old.running lists.old.resting }
+    ensures { AreListed (slot_at slots.now.slots) lists.new.running lists.new.resting }
+{
+    match change {
+        Some(change) => undo(slots, lists, change),
+        None => {}
+    }
+}
+
+/// Takes out of the lists what a change put in. Takes no memory.
+fn undo(slots: &Slots, lists: &mut Lists, change: &Change)
+    requires apart { AreProgramsApart slots.now.slots }
+    requires slots { HasSlots slots.now.slots (Some change.now) }
+    requires listed { AreListedFor (slot_at slots.now.slots) (slots_next slots.now.slots (Some change.now)) lists.old.running lists.old.resting }
+    ensures { AreListed (slot_at slots.now.slots) lists.new.running lists.new.resting }
+{
+    match change {
+        Change::Install { row, program, .. } => {
+            take_new(slots, &mut lists.running, row.number, program);
+        }
+        Change::Remove { row, .. } => wake(slots, &mut lists.resting, *row),
+        Change::Replace {
+            old,
+            row,
+            program,
+            ..
+        } => {
+            take_new(slots, &mut lists.running, row.number, program);
+            wake(slots, &mut lists.resting, *old);
+        }
+        Change::Lapse { lapsing } => wake_all(slots, &mut lists.resting, lapsing),
         Change::Stay => {}
     }
 }
@@ -171,16 +205,25 @@ fn replace(
 }
 
 /// Filters aren't held any more. Takes no memory.
-fn lapse_all(rows: &mut Rows, slots: &mut Slots, reaches: &mut Reaches, lapsing: &[(u64, Row)])
+fn lapse_all(
+    rows: &mut Rows,
+    slots: &mut Slots,
+    reaches: &mut Reaches,
+    running: &mut Numbered,
+    lapsing: &[(u64, Row)],
+)
+    requires runs { AreThose running.old (Runs (slot_at slots.old.slots)) }
     requires booked { AreBooked rows.old.entries slots.old.slots reaches.old.ends }
     requires held { AreHeldRows rows.old.entries lapsing.now }
     requires order { IsStrictlyIncreasing (keys_of rows.old.entries) }
     ensures booked { AreBooked rows.new.entries slots.new.slots reaches.new.ends }
     ensures filters { installed slots.new.slots rows.new.entries ≡ map (lapsed_by lapsing.now) (installed slots.old.slots rows.old.entries) }
     ensures slots { (m : ℕ) → slot_at slots.new.slots m ≡ slots_lapsed slots.old.slots lapsing.now m }
+    ensures runs { AreThose running.new (Runs (slot_at slots.new.slots)) }
 {
     for entry in lapsing {
         lapse_one(rows, slots, reaches, entry.0, entry.1);
+        stop_unheld(slots, running, entry.1.number);
     }
 }
 
@@ -197,14 +240,4 @@ fn lapse_one(rows: &mut Rows, slots: &mut Slots, reaches: &mut Reaches, id: u64,
 {
     rows.set(id, Row { held: false, ..row });
     lapse(slots, reaches, row);
-}
-
-/// The next lists, if they are others.
-fn follow(lists: &mut Lists, next: Option<NextLists>)
-    ensures { lists.new ≡ lists_after next lists.old }
-{
-    match next {
-        Some(next) => next.follow(lists),
-        None => {}
-    }
 }

@@ -1,8 +1,11 @@
 //! The filters, and what is planned of them.
 ghost use Rattle.std.specs.Prelude.{◌≡◌, ◌==◌, ◌<◌, ◌++◌, ◌∷◌, [], ℕ, None, Some, IsSome, true, not, filter, length, IfOk, OnOk, OnErr};
-ghost use Rattle.installed_filters.specs.Homes.{lists_after};
-ghost use Rattle.installed_filters.specs.Leaving.{IsListedBy, IsOneOf};
-ghost use Rattle.installed_filters.specs.Planning.{IsExchange};
+ghost use Rattle.installed_filters.specs.Slotting.{slot_at};
+ghost use Rattle.installed_filters.specs.Books.{Begins};
+ghost use Rattle.installed_filters.specs.Homes.{AreProgramsApart};
+ghost use Rattle.installed_filters.specs.Leaving.{IsOneOf};
+ghost use Rattle.installed_filters.specs.Listing.{AreListed, AreListedFor};
+ghost use Rattle.installed_filters.specs.Planning.{slots_swapped};
 ghost use Rattle.std.specs.List.{Contains};
 ghost use Rattle.installed_filters.specs.Installed.{Installed, AreHeldBy, lapsed_under, replaced_by};
 ghost use Rattle.std.specs.Prelude.{List, map};
@@ -12,14 +15,15 @@ ghost use Rattle.installed_filters.specs.Receiving.{kept_by};
 
 use crate::books::Row;
 use crate::by_id::Rows;
-use crate::changes::{Change, carry_out};
-use crate::homes::{Home, home_of, planned_home};
-use crate::lapsing::lists_lapsed;
-use crate::leaving::{lists_swapped, lists_without};
+use crate::changes::{Change, carry_out, take_back};
+use crate::coming::start;
+use crate::homes::{Home, home_of};
+use crate::lapsing::rest_all;
+use crate::leaving::{rest, wake};
 use crate::lists::Lists;
 use crate::reaches::Reaches;
 use crate::receiving::{Receivers, Workspace};
-use crate::slots::{Slot, Slots};
+use crate::slots::Slots;
 use chunked::Sorted;
 use filter_group::Shared;
 use filter_verify::Verified;
@@ -57,7 +61,7 @@ impl Model for Filters {
 
     ghost view = { λ a. record { now = installed a.slots.slots a.rows.entries; next = next_of a.slots.slots a.rows.entries a.change } };
 
-    ghost invariant = { λ a. IsKept a.rows.entries a.slots.slots a.reaches.ends a.lists × IsPlanned a.rows a.slots a.reaches a.lists a.change };
+    ghost invariant = { λ a. IsKept a.rows.entries a.slots.slots a.reaches.ends a.lists a.change × IsPlanned a.rows a.slots a.reaches a.change };
 }
 
 impl Filters {
@@ -114,14 +118,15 @@ impl Filters {
         let program = Shared::new(alloc, program.clone()?)?;
         let _count = self.rows.len();
         self.rows.reserve()?;
-        let home = planned_home(
-            alloc,
-            &mut self.slots,
-            &mut self.reaches,
-            &self.lists,
-            program,
-        )?;
+        let home = home_of(&mut self.slots, &mut self.reaches, &self.lists, program)?;
         self.reaches.reserve(alloc, home.number, endpoint)?;
+        start(
+            alloc,
+            &self.slots,
+            &mut self.lists.running,
+            home.number,
+            &home.program,
+        )?;
         self.change = Some(coming(id, owner, cap, endpoint, home));
         Ok(())
     }
@@ -139,16 +144,8 @@ impl Filters {
             None => unreachable!(),
         };
         self.slots.reserve()?;
-        let slot = match self.slots.get(row.number) {
-            Some(slot) => slot,
-            None => unreachable!(),
-        };
-        let lists = lists_without(alloc, &self.lists, row, slot)?;
-        self.change = Some(Change::Remove {
-            id,
-            row,
-            next: lists,
-        });
+        rest(alloc, &self.slots, &mut self.lists.resting, row)?;
+        self.change = Some(Change::Remove { id, row });
         Ok(())
     }
 
@@ -173,25 +170,15 @@ impl Filters {
             Some(row) => *row,
             None => unreachable!(),
         };
-        let home = home_of(
-            alloc,
-            &mut self.slots,
-            &mut self.reaches,
-            &self.lists,
-            program,
-        )?;
+        let home = home_of(&mut self.slots, &mut self.reaches, &self.lists, program)?;
         if home.number == old.number {
             self.change = Some(Change::Stay);
             return Ok(());
         }
         self.slots.reserve()?;
         self.reaches.reserve(alloc, home.number, old.endpoint)?;
-        let slot = match self.slots.get(old.number) {
-            Some(slot) => slot,
-            None => unreachable!(),
-        };
-        let change = exchanging(alloc, &self.lists, id, old, slot, home)?;
-        self.change = Some(change);
+        exchange(alloc, &self.slots, &mut self.lists, old, &home)?;
+        self.change = Some(exchanging(id, old, home));
         Ok(())
     }
 
@@ -204,11 +191,8 @@ impl Filters {
     {
         let _count = self.rows.len();
         let lapsing = self.rows.lapsing_under(alloc, gone)?;
-        let lists = lists_lapsed(alloc, &self.slots, &self.lists, &lapsing)?;
-        self.change = Some(Change::Lapse {
-            lapsing,
-            next: lists,
-        });
+        rest_all(alloc, &self.slots, &mut self.lists.resting, &lapsing)?;
+        self.change = Some(Change::Lapse { lapsing });
         Ok(())
     }
 
@@ -234,6 +218,7 @@ impl Filters {
     pub fn forget(&mut self)
         ensures { self.new ≡ record { now = self.old.now; next = None } }
     {
+        take_back(&self.slots, &mut self.lists, &self.change);
         self.change = None;
     }
 
@@ -279,13 +264,9 @@ impl Filters {
 
 /// A filter comes whose capability is held.
 fn coming(id: u32, owner: u16, cap: u32, endpoint: u16, home: Home) -> Change
-    ensures { result ≡ Change.Install id (record { owner = owner; cap = cap; endpoint = endpoint; held = true; number = home.number }) home.program home.lists }
+    ensures { result ≡ Change.Install id (record { owner = owner; cap = cap; endpoint = endpoint; held = true; number = home.number }) home.program }
 {
-    let Home {
-        number,
-        program,
-        lists,
-    } = home;
+    let Home { number, program } = home;
     let row = Row {
         owner,
         cap,
@@ -293,40 +274,47 @@ fn coming(id: u32, owner: u16, cap: u32, endpoint: u16, home: Home) -> Change
         held: true,
         number,
     };
-    Change::Install {
-        id,
-        row,
-        program,
-        next: lists,
-    }
+    Change::Install { id, row, program }
 }
 
-/// A filter gets the program of a home, and leaves that of a slot.
-#[inline(always)]
-fn exchanging(
+/// Puts into the lists what is needed once a filter goes with its program and comes with that of a home. Without memory the lists are as
+/// they were, but those that run may have no plan.
+#[inline(never)]
+fn exchange(
     alloc: Global,
-    lists: &Lists,
-    id: u32,
+    slots: &Slots,
+    lists: &mut Lists,
     old: Row,
-    slot: &Slot,
-    home: Home,
-) -> Result<Change, AllocError>
-    requires one { IsOneOf (Some slot.now) old.held }
-    requires listed { IsListedBy (lists_after home.lists lists.now) old.number slot.now }
-    ensures { IfOk result (IsExchange lists.now id old slot.now home) }
+    home: &Home,
+) -> Result<(), AllocError>
+    requires one { IsOneOf (slot_at slots.now.slots old.number) old.held }
+    requires held { old.held ≡ true }
+    requires begins { Begins slots.now.slots home.now.number home.now.program }
+    requires inside { home.now.number < length slots.now.slots }
+    requires other { old.number ≡ home.now.number → ⊥ }
+    requires apart { AreProgramsApart slots.now.slots }
+    requires listed { AreListed (slot_at slots.now.slots) lists.old.running lists.old.resting }
+    ensures done { OnOk result (AreListedFor (slot_at slots.now.slots) (slots_swapped slots.now.slots old (record old { number = home.now.number }) home.now.program) lists.new.running lists.new.resting) }
+    ensures undone { OnErr result (AreListed (slot_at slots.now.slots) lists.new.running lists.new.resting) }
 {
-    let Home {
-        number,
-        program,
-        lists: next,
-    } = home;
-    let lists = lists_swapped(alloc, lists, next, old, slot)?;
+    rest(alloc, slots, &mut lists.resting, old)?;
+    let started = start(alloc, slots, &mut lists.running, home.number, &home.program);
+    if started.is_err() {
+        wake(slots, &mut lists.resting, old);
+    }
+    started
+}
+
+/// A filter gets the program of a home.
+fn exchanging(id: u32, old: Row, home: Home) -> Change
+    ensures { result ≡ Change.Replace id old (record old { number = home.number }) home.program }
+{
+    let Home { number, program } = home;
     let row = Row { number, ..old };
-    Ok(Change::Replace {
+    Change::Replace {
         id,
         old,
         row,
         program,
-        next: lists,
-    })
+    }
 }

@@ -1,112 +1,79 @@
-//! The lists of programs once a filter goes.
-ghost use Rattle.std.specs.Prelude.{◌≡◌, Option, Some, false, IfOk, IsTrue, IsFalse};
+//! The lists of programs as a filter goes.
+ghost use Rattle.std.specs.Prelude.{◌≡◌, ◌↔◌, ◌⊎◌, ℕ, List, OnOk, OnErr, IsTrue};
+ghost use Rattle.bpf_insn.specs.declared.insn.Insn.{Insn as AnyInsn};
+ghost use Rattle.installed_filters.specs.Slotting.{slot_at};
+ghost use Rattle.installed_filters.specs.Homes.{program_in};
+ghost use Rattle.installed_filters.specs.Leaving.{GoesToRest, IsOneOf, Stops, Vanishes};
+ghost use Rattle.installed_filters.specs.Numbering.{Has, IsFresh};
 ghost use Rattle.installed_filters.specs.declared.slots.Slot.{Slot as AnySlot};
-ghost use Rattle.installed_filters.specs.Homes.{lists_after};
-ghost use Rattle.installed_filters.specs.Leaving.{IsListedBy, IsOneOf, Leaves, Stays};
 
 use crate::books::Row;
-use crate::lists::{Lists, NextLists};
-use crate::slots::Slot;
+use crate::lists::Lists;
+use crate::numbered::Numbered;
+use crate::slots::{Slot, Slots};
 use std::alloc::{AllocError, Global};
 
-/// The lists without one of the filters with a program, if they are others.
-#[inline(always)]
-pub(crate) fn lists_without(
+/// Puts the program of a filter that goes among those that rest, if it goes to rest then. Without memory those stay.
+#[inline(never)]
+pub(crate) fn rest(
     alloc: Global,
-    lists: &Lists,
+    slots: &Slots,
+    resting: &mut Numbered,
     row: Row,
-    slot: &Slot,
-) -> Result<Option<NextLists>, AllocError>
-    requires one { IsOneOf (Some slot.now) row.held }
-    requires listed { IsListedBy lists.now row.number slot.now }
-    ensures { IfOk result (λ after. Leaves lists.now row slot.now (lists_after after lists.now)) }
+) -> Result<(), AllocError>
+    requires one { IsOneOf (slot_at slots.now.slots row.number) row.held }
+    requires fresh { GoesToRest row.held (slot_at slots.now.slots row.number) → IsFresh resting.old row.number (program_in (slot_at slots.now.slots row.number)) }
+    ensures done { OnOk result ((m : ℕ) (listed : List AnyInsn) → Has resting.new m listed ↔ (Has resting.old m listed ⊎ (GoesToRest row.held (slot_at slots.now.slots row.number) × (m ≡ row.number) × (listed ≡ program_in (slot_at slots.now.slots row.number))))) }
+    ensures undone { OnErr result (resting.new ≡ resting.old) }
 {
-    if stays(row, slot) {
-        return Ok(None);
+    let slot = slot_of(slots, row);
+    if goes_to_rest(row, slot) {
+        return resting.add(alloc, &slot.program, row.number);
     }
-    let next = NextLists::copy(alloc, lists)?;
-    let after = next_without(alloc, next, row, slot)?;
-    Ok(Some(after))
+    Ok(())
 }
 
-/// The next lists without one of the filters with a program, if they are others than the first.
-pub(crate) fn lists_swapped(
-    alloc: Global,
-    lists: &Lists,
-    next: Option<NextLists>,
-    row: Row,
-    slot: &Slot,
-) -> Result<Option<NextLists>, AllocError>
-    requires one { IsOneOf (Some slot.now) row.held }
-    requires listed { IsListedBy (lists_after next lists.now) row.number slot.now }
-    ensures { IfOk result (λ after. Leaves (lists_after next lists.now) row slot.now (lists_after after lists.now)) }
+/// Takes the program of a filter that was to go out of those that rest, if it was to go to rest. Takes no memory.
+pub(crate) fn wake(slots: &Slots, resting: &mut Numbered, row: Row)
+    requires { IsOneOf (slot_at slots.now.slots row.number) row.held }
+    ensures { (m : ℕ) (listed : List AnyInsn) → Has resting.new m listed ↔ (Has resting.old m listed × (GoesToRest row.held (slot_at slots.now.slots row.number) → listed ≡ program_in (slot_at slots.now.slots row.number) → ⊥)) }
 {
-    match next {
-        None => lists_without(alloc, lists, row, slot),
-        Some(next) => {
-            let next = next_without(alloc, next, row, slot)?;
-            Ok(Some(next))
-        }
+    let slot = slot_of(slots, row);
+    if goes_to_rest(row, slot) {
+        resting.take_out(&slot.program);
     }
 }
 
-/// These lists without one of the filters with a program, and with a plan.
-// In line, as what it calls has its room on the stack apart.
-#[inline(always)]
-fn next_without(
-    alloc: Global,
-    next: NextLists,
-    row: Row,
-    slot: &Slot,
-) -> Result<NextLists, AllocError>
-    requires one { IsOneOf (Some slot.now) row.held }
-    requires listed { IsListedBy next row.number slot.now }
-    ensures { IfOk result (λ after. Leaves next row slot.now after) }
+/// Takes the program of a filter that goes out of the list that it leaves. Takes no memory.
+pub(crate) fn leave(slots: &Slots, lists: &mut Lists, row: Row)
+    requires { IsOneOf (slot_at slots.now.slots row.number) row.held }
+    ensures running { (m : ℕ) (listed : List AnyInsn) → Has lists.new.running m listed ↔ (Has lists.old.running m listed × (Stops row.held (slot_at slots.now.slots row.number) → listed ≡ program_in (slot_at slots.now.slots row.number) → ⊥)) }
+    ensures resting { (m : ℕ) (listed : List AnyInsn) → Has lists.new.resting m listed ↔ (Has lists.old.resting m listed × (Vanishes row.held (slot_at slots.now.slots row.number) → listed ≡ program_in (slot_at slots.now.slots row.number) → ⊥)) }
 {
-    let after = without(alloc, next, row, slot)?;
-    let planned = after.planned(alloc)?;
-    Ok(planned)
-}
-
-/// These lists without one of the filters with a program.
-fn without(alloc: Global, next: NextLists, row: Row, slot: &Slot) -> Result<NextLists, AllocError>
-    requires one { IsOneOf (Some slot.now) row.held }
-    requires listed { IsListedBy next row.number slot.now }
-    ensures { IfOk result (λ after. Leaves next row slot.now after) }
-{
-    if stays(row, slot) {
-        return Ok(next);
-    }
-    taken_out(alloc, next, row, slot)
-}
-
-/// Whether a program stays in its list when one of its filters goes.
-fn stays(row: Row, slot: &Slot) -> bool
-    ensures yes { IsTrue result → Stays row.held slot.now }
-    ensures no { IsFalse result → Stays row.held slot.now → ⊥ }
-{
+    let slot = slot_of(slots, row);
     if row.held {
-        slot.held > 1
-    } else {
-        slot.filters > 1
+        if slot.held == 1 {
+            lists.running.take_out(&slot.program);
+        }
+    } else if slot.filters == 1 {
+        lists.resting.take_out(&slot.program);
     }
 }
 
-/// These lists without a program, or with one that rests from now on.
-fn taken_out(alloc: Global, next: NextLists, row: Row, slot: &Slot) -> Result<NextLists, AllocError>
-    requires one { IsOneOf (Some slot.now) row.held }
-    requires listed { IsListedBy next row.number slot.now }
-    requires goes { Stays row.held slot.now → ⊥ }
-    ensures { IfOk result (λ after. Leaves next row slot.now after) }
+/// The slot of a filter's program.
+fn slot_of(slots: &Slots, row: Row) -> &Slot
+    requires { IsOneOf (slot_at slots.now.slots row.number) row.held }
+    ensures { slot_at slots.now.slots row.number ≡ Some result.now }
 {
-    if !row.held {
-        let after = next.left(alloc, &slot.program)?;
-        return Ok(after);
+    match slots.get(row.number) {
+        Some(slot) => slot,
+        None => unreachable!(),
     }
-    if slot.filters > 1 {
-        let after = next.rested(alloc, &slot.program, row.number)?;
-        return Ok(after);
-    }
-    let after = next.stopped(alloc, &slot.program)?;
-    Ok(after)
+}
+
+/// Whether a program goes to rest with a filter that goes.
+fn goes_to_rest(row: Row, slot: &Slot) -> bool
+    ensures { IsTrue result ↔ GoesToRest row.held (Some slot.now) }
+{
+    row.held && slot.held == 1 && slot.filters > 1
 }

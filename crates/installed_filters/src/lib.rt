@@ -4,6 +4,7 @@
 mod books;
 mod by_id;
 mod changes;
+mod coming;
 mod endpoints;
 mod filters;
 mod homes;

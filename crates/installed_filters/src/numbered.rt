@@ -1,14 +1,14 @@
 //! Programs with numbers.
-ghost use Rattle.std.specs.Prelude.{◌≡◌, ◌<◌, ◌^◌, ◌↔◌, ◌⊎◌, ◌++◌, ◌∷◌, ℕ, [], length, map, IfOk, OnOk, MatchOption, Some, slice_get};
+ghost use Rattle.std.specs.Prelude.{◌≡◌, ◌<◌, ◌^◌, ◌↔◌, ℕ, [], length, map, OnOk, OnErr, MatchOption, Some, slice_get};
 ghost use Rattle.filter_group.specs.declared.lockstep.Hit.{Hit as AnyHit};
 ghost use Rattle.bpf_insn.specs.declared.insn.Insn.{Insn as AnyInsn};
 ghost use Rattle.std.specs.Prelude.{List};
-ghost use Rattle.installed_filters.specs.Numbering.{AreNumbered, Has, IsFresh, AreHitsBy, AreDistinct, numbered_hit};
+ghost use Rattle.installed_filters.specs.Listing.{IsWith, IsWithout};
+ghost use Rattle.installed_filters.specs.Numbering.{Has, IsFresh, AreHitsBy, AreDistinct, numbered_hit};
 
 use filter_group::{Hit, Lists, Programs, Shared};
 use std::alloc::{AllocError, Global};
 use std::marker::Model;
-use std::mem;
 
 /// Different programs, each with a number of its own. Those of one shape run together.
 pub(crate) struct Numbered {
@@ -57,17 +57,6 @@ impl Numbered {
         *self = Numbered::new(alloc);
     }
 
-    /// How many there are.
-    pub(crate) fn len(&self) -> usize
-        ensures count { result ≡ length self.now.programs }
-        ensures distinct { AreDistinct self.now.programs }
-        ensures numbers { length self.now.numbers ≡ length self.now.programs }
-        ensures small { result < 2 ^ 63 }
-    {
-        let _numbers = self.numbers.len();
-        self.programs.len()
-    }
-
     /// The number of a program.
     pub(crate) fn number_of(&self, program: &Shared) -> Option<u32>
         ensures { MatchOption result ((number : ℕ) → Has self.now number program.now → ⊥) (λ number. Has self.now number program.now) }
@@ -78,47 +67,7 @@ impl Numbered {
         }
     }
 
-    /// Makes others the same programs. Without memory these stay.
-    // Not in line, and the place is handed down, so that lists take room on the stack one at a time.
-    #[inline(never)]
-    pub(crate) fn copy_into(&self, alloc: Global, copy: &mut Numbered) -> Result<(), AllocError>
-        ensures { OnOk result (copy.new ≡ self.now) }
-    {
-        let numbers = Vec::from_slice(alloc, &self.numbers)?;
-        let programs = self.programs.copy(alloc)?;
-        *copy = Numbered { programs, numbers };
-        Ok(())
-    }
-
-    /// Puts these in place of what there is.
-    // Not in line, so that what goes has no room on the stack while others are made.
-    #[inline(never)]
-    fn put(&mut self, programs: Programs, numbers: Vec<u32>)
-        requires { AreNumbered (record { programs = programs; numbers = numbers.items }) }
-        ensures { self.new ≡ record { programs = programs; numbers = numbers.items } }
-    {
-        *self = Numbered { programs, numbers };
-    }
-
-    /// Makes others these programs and one more, with a number of its own. Without memory they stay.
-    #[inline(never)]
-    pub(crate) fn with_into(
-        &self,
-        alloc: Global,
-        program: &Shared,
-        number: u32,
-        more: &mut Numbered,
-    ) -> Result<(), AllocError>
-        requires { IsFresh self.now number program.now }
-        ensures { OnOk result ((other : ℕ) (listed : List AnyInsn) → Has more.new other listed ↔ (Has self.now other listed ⊎ ((other ≡ number) × (listed ≡ program.now)))) }
-    {
-        let numbers = numbers_with(alloc, &self.numbers, number)?;
-        let programs = self.programs.with(alloc, program)?;
-        more.put(programs, numbers);
-        Ok(())
-    }
-
-    /// Adds a program, with a number of its own. Without memory the programs stay.
+    /// Adds a program, with a number of its own. Those that there are then have no plan. Without memory the programs stay.
     #[inline(never)]
     pub(crate) fn add(
         &mut self,
@@ -127,36 +76,43 @@ impl Numbered {
         number: u32,
     ) -> Result<(), AllocError>
         requires { IsFresh self.old number program.now }
-        ensures { OnOk result ((other : ℕ) (listed : List AnyInsn) → Has self.new other listed ↔ (Has self.old other listed ⊎ ((other ≡ number) × (listed ≡ program.now)))) }
+        ensures done { OnOk result (IsWith self.old number program.now self.new) }
+        ensures undone { OnErr result (self.new ≡ self.old) }
     {
-        let numbers = numbers_with(alloc, &self.numbers, number)?;
-        let programs = self.programs.with(alloc, program)?;
-        self.put(programs, numbers);
+        self.numbers.reserve(1)?;
+        self.programs.add(alloc, program)?;
+        let _ = self.numbers.push(number);
         Ok(())
     }
 
-    /// Takes a program out. The others have no plan. Without memory none is left.
+    /// Adds a program, with a number of its own, and makes a plan for all. Without memory the programs stay, but may have no plan.
+    pub(crate) fn add_planned(
+        &mut self,
+        alloc: Global,
+        program: &Shared,
+        number: u32,
+    ) -> Result<(), AllocError>
+        requires { IsFresh self.old number program.now }
+        ensures done { OnOk result (IsWith self.old number program.now self.new) }
+        ensures undone { OnErr result ((other : ℕ) (listed : List AnyInsn) → Has self.new other listed ↔ Has self.old other listed) }
+    {
+        self.add(alloc, program, number)?;
+        let planned = self.programs.make_plan(alloc);
+        if planned.is_err() {
+            self.take_out(program);
+        }
+        planned
+    }
+
+    /// Takes a program out, if it is there. A plan of the others stays. Takes no memory.
     #[inline(never)]
-    pub(crate) fn take_out(&mut self, alloc: Global, program: &Shared) -> Result<(), AllocError>
-        requires { (number : ℕ) × Has self.old number program.now }
-        ensures { OnOk result ((number : ℕ) (other : List AnyInsn) → Has self.new number other ↔ (Has self.old number other × (other ≡ program.now → ⊥))) }
+    pub(crate) fn take_out(&mut self, program: &Shared)
+        ensures { IsWithout self.old program.now self.new }
     {
-        let Some(place) = self.programs.place_of(program) else {
-            unreachable!()
-        };
-        let programs = mem::replace(&mut self.programs, Programs::new(alloc));
-        let mut numbers = mem::replace(&mut self.numbers, Vec::new(alloc));
-        numbers.swap_remove(place);
-        let programs = programs.without(alloc, place)?;
-        *self = Numbered { programs, numbers };
-        Ok(())
-    }
-
-    /// Makes a plan of which of the programs a packet is run on. Without memory they stay without one.
-    pub(crate) fn plan(&mut self, alloc: Global) -> Result<(), AllocError>
-        ensures { self.new ≡ self.old }
-    {
-        self.programs.make_plan(alloc)
+        if let Some(place) = self.programs.place_of(program) {
+            self.programs.take_out(place);
+            self.numbers.swap_remove(place);
+        }
     }
 
     /// Runs all programs over a packet. Afterwards `lists.hits` has those that end with a verdict above 0, by their numbers. Takes memory
@@ -175,16 +131,6 @@ impl Numbered {
         give_numbers(&mut lists.hits, &self.numbers);
         Ok(())
     }
-}
-
-/// Numbers and one more, last.
-fn numbers_with(alloc: Global, numbers: &[u32], number: u32) -> Result<Vec<u32>, AllocError>
-    ensures { IfOk result (λ more. more.items ≡ numbers.now ++ number ∷ []) }
-{
-    let mut more = Vec::with_capacity(alloc, numbers.len() + 1)?;
-    more.extend_from_slice(numbers)?;
-    more.push(number)?;
-    Ok(more)
 }
 
 /// Hits by the numbers of their programs in place of their places. Most packets have one hit or none.

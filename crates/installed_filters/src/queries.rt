@@ -62,14 +62,16 @@ impl Filters {
     pub fn distinct_programs(&self) -> usize
         ensures { AreDifferent (listed self.now.now) result }
     {
-        self.lists.running.len() + self.lists.resting.len()
+        let _count = self.rows.len();
+        self.slots.count()
     }
 
     /// How many different programs a packet is run on: those of the filters whose capability is held.
     pub fn running_programs(&self) -> usize
         ensures { AreDifferent (held_listed self.now.now) result }
     {
-        self.lists.running.len()
+        let _count = self.rows.len();
+        self.slots.count_held()
     }
 }
 

@@ -1,8 +1,8 @@
 //! Of each number its program, and how many filters have it.
-ghost use Rattle.std.specs.Prelude.{◌≡◌, ◌==◌, ◌+◌, ◌<◌, ◌≤◌, ℕ, [], None, Some, true, false, IsTrue, ◌↔◌, if◌then◌else◌, length, slice_set, is_some, IfSome, IfOk, OnOk};
+ghost use Rattle.std.specs.Prelude.{◌≡◌, ◌==◌, ◌+◌, ◌<◌, ◌≤◌, ℕ, [], None, Some, true, false, IsTrue, ◌↔◌, if◌then◌else◌, length, count_by, slice_set, is_some, IfSome, IfOk, OnOk};
 ghost use Rattle.chunked.specs.Maps.{value_at};
 ghost use Rattle.std.specs.Option.{option_copied};
-ghost use Rattle.installed_filters.specs.Slotting.{slot_at, HasOne, HasRoomIn, IsLast, MayGo, new_slot, one, one_more, one_less, one_lapsed};
+ghost use Rattle.installed_filters.specs.Slotting.{slot_at, is_held, HasOne, HasRoomIn, IsLast, MayGo, new_slot, one, one_more, one_less, one_lapsed};
 
 use chunked::Sorted;
 use filter_group::Shared;
@@ -95,6 +95,20 @@ impl Slots {
         self.slots[number as usize].as_ref()
     }
 
+    /// How many programs there are.
+    pub(crate) fn count(&self) -> usize
+        ensures { result ≡ count_by is_some self.now.slots }
+    {
+        self.slots.iter().filter(|slot| slot.is_some()).count()
+    }
+
+    /// How many programs have filters whose capability is held.
+    pub(crate) fn count_held(&self) -> usize
+        ensures { result ≡ count_by is_held self.now.slots }
+    {
+        self.slots.iter().filter(|slot| has_held(slot)).count()
+    }
+
     /// A number without a program, which may be a new one. The programs stay, whatever the result. An error also where all numbers have one.
     pub(crate) fn fresh(&mut self) -> Result<u32, AllocError>
         ensures slots { (m : ℕ) → slot_at self.new.slots m ≡ slot_at self.old.slots m }
@@ -168,6 +182,16 @@ impl Slots {
         ensures ready { self.new.ready ≡ self.old.ready }
     {
         lapse_at(&mut self.slots, number as usize);
+    }
+}
+
+/// Whether a program has a filter whose capability is held.
+fn has_held(slot: &Option<Slot>) -> bool
+    ensures { result ≡ is_held slot.now }
+{
+    match slot {
+        Some(slot) => slot.held > 0,
+        None => false,
     }
 }
 

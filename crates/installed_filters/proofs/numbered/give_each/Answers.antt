@@ -1,7 +1,7 @@
 use Rattle.std.proofs.Common.{List, ◌<◌, ap, arith, get_or, length, refl, slice_get, sym, ◌∙◌}
 use Rattle.std.proofs.lemmas.Option.{slice_get-get_or}
 use Rattle.filter_group.specs.declared.lockstep.Hit.{Hit}
-use Rattle.filter_group.proofs.InPlace.{next_changed, not_yet}
+use Rattle.installed_filters.proofs.InPlace.{next_changed, not_yet}
 use Rattle.installed_filters.specs.Numbering.{numbered_hit}
 use Rattle.installed_filters.proofs.numbered.give_each.Goals as goal
 

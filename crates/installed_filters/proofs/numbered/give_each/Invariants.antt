@@ -1,5 +1,5 @@
 use Rattle.std.proofs.Common.{◌≡◌}
-use Rattle.filter_group.proofs.InPlace.{changed}
+use Rattle.installed_filters.proofs.InPlace.{changed}
 use Rattle.installed_filters.specs.Numbering.{numbered_hit}
 use Rattle.installed_filters.proofs.numbered.give_each.Given as goal
 

@@ -1,5 +1,4 @@
-use Rattle.std.proofs.Common.{◌++◌, arith, length, subst, sym, ℕ}
-use Rattle.std.proofs.lemmas.List.{length-append}
+use Rattle.std.proofs.Common.{count_by, is_some, subst, sym, ℕ}
 use Rattle.installed_filters.specs.Installed.{Standing}
 use Rattle.installed_filters.specs.Lent.{AreDifferent, listed}
 use Rattle.installed_filters.proofs.Different.{all_different}
@@ -8,9 +7,5 @@ use Rattle.installed_filters.proofs.filters.Filters.distinct_programs.Goals as g
 pub returns : goal.returns
 returns c =
     let i = c.self.inside in
-    let count = length-append i.lists.running.programs i.lists.resting.programs in
-    let run = c.len.ensures.count in
-    let rest = c.len-2.ensures.count in
-    subst (λ (n : ℕ). AreDifferent (listed c.args.self.now.now) n) (sym (omega (arith, count, run, rest)))
-    (subst (λ (s : Standing). AreDifferent (listed s.now) (length (i.lists.running.programs ++ i.lists.resting.programs))) c.self.view_is
-    (all_different i.rows.entries i.slots.slots i.reaches.ends i.lists c.self.invariant.0 c.len.ensures.numbers c.len.ensures.distinct c.len-2.ensures.numbers c.len-2.ensures.distinct))
+    subst (λ (n : ℕ). AreDifferent (listed c.args.self.now.now) n) (sym c.count.ensures)
+    (subst (λ (s : Standing). AreDifferent (listed s.now) (count_by is_some i.slots.slots)) c.self.view_is (all_different i.rows.entries i.slots.slots i.reaches.ends c.self.invariant.0.booked))

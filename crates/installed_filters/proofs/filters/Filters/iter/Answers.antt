@@ -8,7 +8,7 @@ use Rattle.installed_filters.proofs.filters.Filters.iter.Goals as goal
 pub invariant_of-result : goal.invariant_of-result
 invariant_of-result c =
     let i = c.self.inside in
-    subst (λ (es : List (ℕ × Row)). AreLendable i.slots.slots es) (sym c.iter.ensures.entries) (lendable i.rows.entries i.slots.slots i.reaches.ends i.lists c.self.invariant.0)
+    subst (λ (es : List (ℕ × Row)). AreLendable i.slots.slots es) (sym c.iter.ensures.entries) (lendable i.rows.entries i.slots.slots i.reaches.ends c.self.invariant.0.booked c.self.invariant.0.ids)
 
 pub returns : goal.returns
 returns c =

@@ -3,18 +3,17 @@ use Rattle.bpf_insn.specs.declared.insn.Insn.{Insn}
 use Rattle.chunked.specs.Maps.{value_at}
 use Rattle.installed_filters.specs.declared.slots.Slot.{Slot}
 use Rattle.installed_filters.specs.Slotting.{slot_at}
-use Rattle.installed_filters.specs.declared.books.Row.{Row}
+use Rattle.installed_filters.specs.Counts.{reach_at}
 use Rattle.installed_filters.specs.declared.changes.Change.{Change}
 use Rattle.installed_filters.specs.Books.{base_slot}
-use Rattle.installed_filters.specs.Homes.{IsHome, lists_after, program_in}
+use Rattle.installed_filters.specs.Homes.{IsHome, program_in}
 use Rattle.installed_filters.specs.Installed.{Installed, Standing, installed, replaced_by}
-use Rattle.installed_filters.specs.Leaving.{IsOneOf, slots_without}
-use Rattle.installed_filters.specs.Planning.{IsPlanned, next_of, slots_swapped}
-use Rattle.installed_filters.proofs.Homed.{listed_same}
-use Rattle.installed_filters.proofs.Left.{listed_by}
+use Rattle.installed_filters.specs.Planning.{IsKept, IsPlanned, next_of}
+use Rattle.installed_filters.proofs.Arrived.{base_there}
 use Rattle.installed_filters.proofs.Rows.{booked_slot, found_in, installed_slots}
-use Rattle.installed_filters.proofs.Planned.{kept_same, one_of, planned_free, planned_none, reach_fits, room_in, there_found}
-use Rattle.installed_filters.proofs.Exchanged.{base_there, between, between_apart, between_listed, between_old, held_there, installed-length, may_go, on_err, replaced_same, swapped_is}
+use Rattle.installed_filters.proofs.Planned.{booked_same, housed, listed_room, one_of, planned_none, reach_fits, room_in, still_free, there_found}
+use Rattle.installed_filters.proofs.Exchanged.{held_there, installed-length, may_go, on_err, replaced_same}
+use Rattle.installed_filters.proofs.Through.{listed_twice}
 use Rattle.installed_filters.proofs.filters.Filters.prepare_replace.Goals as goal
 
 pub unreachable-requires : goal.unreachable-requires
@@ -24,15 +23,31 @@ unreachable-requires c =
     there_found c.self.inside.slots.slots c.self.inside.rows.entries c.args.self.now.now c.args.id f.0 (ap (λ (s : Standing). s.now) c.self.view_is) f.1 f.2
     (ap (λ (k : ℕ). value_at c.self.inside.rows.entries k) (sym c.from.ensures) ∙ sym none)
 
+pub home_of-requires : goal.home_of-requires
+home_of-requires c =
+    let i = c.self.inside in
+    let none = planned_none i.slots.slots i.rows.entries i.change (ap (λ (s : Standing). s.next) c.self.view_is ∙ c.requires.free) in
+    record { housed = housed i.rows.entries i.slots.slots i.reaches.ends i.lists i.change none c.self.invariant.0 }
+
 pub invariant_of-self : goal.invariant_of-self
 invariant_of-self c =
-    let none = planned_none c.self.inside.slots.slots c.self.inside.rows.entries c.self.inside.change (ap (λ (s : Standing). s.next) c.self.view_is ∙ c.requires.free) in (
-      kept_same c.self.inside.rows.entries c.self.inside.rows.entries c.self.inside.slots.slots c.home_of.new.slots.slots c.self.inside.reaches.ends c.home_of.new.reaches.ends c.self.inside.lists refl c.home_of.ensures.grown.programs c.home_of.ensures.grown.counts c.home_of.ensures.grown.more c.self.invariant.0,
-      planned_free c.self.inside.rows c.home_of.new.slots c.home_of.new.reaches c.self.inside.lists c.self.inside.change none,
-    )
+    let i = c.self.inside in
+    let none = planned_none i.slots.slots i.rows.entries i.change (ap (λ (s : Standing). s.next) c.self.view_is ∙ c.requires.free) in
+    still_free i.rows i.rows i.slots c.home_of.new.slots i.reaches c.home_of.new.reaches i.lists i.lists i.change none refl c.home_of.ensures.grown.programs c.home_of.ensures.grown.counts c.home_of.ensures.grown.more c.self.invariant.0
+    (listed_room i.rows.entries i.slots.slots c.home_of.new.slots.slots i.reaches.ends i.lists i.change none c.home_of.ensures.grown.programs c.self.invariant.0)
 
 pub invariant_of-self-then-home-old : goal.invariant_of-self-then-home-old
-invariant_of-self-then-home-old c = (kept_same c.self.inside.rows.entries c.self.inside.rows.entries c.self.inside.slots.slots c.home_of.new.slots.slots c.self.inside.reaches.ends c.home_of.new.reaches.ends c.self.inside.lists refl c.home_of.ensures.grown.programs c.home_of.ensures.grown.counts c.home_of.ensures.grown.more c.self.invariant.0, tt)
+invariant_of-self-then-home-old c =
+    let i = c.self.inside in
+    let none = planned_none i.slots.slots i.rows.entries i.change (ap (λ (s : Standing). s.next) c.self.view_is ∙ c.requires.free) in
+    let listed = listed_room i.rows.entries i.slots.slots c.home_of.new.slots.slots i.reaches.ends i.lists i.change none c.home_of.ensures.grown.programs c.self.invariant.0 in (
+      record {
+        booked = booked_same i.rows.entries i.rows.entries i.slots.slots c.home_of.new.slots.slots i.reaches.ends c.home_of.new.reaches.ends refl c.home_of.ensures.grown.programs c.home_of.ensures.grown.counts c.home_of.ensures.grown.more c.self.invariant.0.booked;
+        listed = listed_twice (slot_at c.home_of.new.slots.slots) i.lists.running i.lists.resting listed;
+        ids = c.self.invariant.0.ids;
+      },
+      tt,
+    )
 
 pub returns-then-home-old-clause-now : goal.returns-then-home-old-clause-now
 returns-then-home-old-clause-now c = installed_slots c.self.inside.slots.slots c.home_of.new.slots.slots c.self.inside.rows.entries c.home_of.ensures.grown.programs ∙ ap (λ (s : Standing). s.now) c.self.view_is
@@ -55,10 +70,11 @@ returns-then-home-old-clause-planned c =
 
 pub invariant_of-self-in_err-reserve : goal.invariant_of-self-in_err-reserve
 invariant_of-self-in_err-reserve c =
-    let none = planned_none c.self.inside.slots.slots c.self.inside.rows.entries c.self.inside.change (ap (λ (s : Standing). s.next) c.self.view_is ∙ c.requires.free) in (
-      kept_same c.self.inside.rows.entries c.self.inside.rows.entries c.self.inside.slots.slots c.reserve.new.self.slots c.self.inside.reaches.ends c.home_of.new.reaches.ends c.self.inside.lists refl (λ m. ap (λ (ss : List (Option Slot)). slot_at ss m) c.reserve.ensures.slots ∙ c.home_of.ensures.grown.programs m) c.home_of.ensures.grown.counts c.home_of.ensures.grown.more c.self.invariant.0,
-      planned_free c.self.inside.rows c.reserve.new.self c.home_of.new.reaches c.self.inside.lists c.self.inside.change none,
-    )
+    let i = c.self.inside in
+    let none = planned_none i.slots.slots i.rows.entries i.change (ap (λ (s : Standing). s.next) c.self.view_is ∙ c.requires.free) in
+    let same : (m : ℕ) → slot_at c.reserve.new.self.slots m ≡ slot_at i.slots.slots m = λ m. ap (λ (ss : List (Option Slot)). slot_at ss m) c.reserve.ensures.slots ∙ c.home_of.ensures.grown.programs m in
+    let listed = listed_room i.rows.entries i.slots.slots c.reserve.new.self.slots i.reaches.ends i.lists i.change none same c.self.invariant.0 in
+    still_free i.rows i.rows i.slots c.reserve.new.self i.reaches c.home_of.new.reaches i.lists i.lists i.change none refl same c.home_of.ensures.grown.counts c.home_of.ensures.grown.more c.self.invariant.0 listed
 
 pub returns-in_err-reserve-clause-now : goal.returns-in_err-reserve-clause-now
 returns-in_err-reserve-clause-now c = installed_slots c.self.inside.slots.slots c.reserve.new.self.slots c.self.inside.rows.entries (λ m. ap (λ (ss : List (Option Slot)). slot_at ss m) c.reserve.ensures.slots ∙ c.home_of.ensures.grown.programs m) ∙ ap (λ (s : Standing). s.now) c.self.view_is
@@ -70,10 +86,14 @@ returns-in_err-reserve-clause-free c =
 
 pub invariant_of-self-in_err-reserve-2 : goal.invariant_of-self-in_err-reserve-2
 invariant_of-self-in_err-reserve-2 c =
-    let none = planned_none c.self.inside.slots.slots c.self.inside.rows.entries c.self.inside.change (ap (λ (s : Standing). s.next) c.self.view_is ∙ c.requires.free) in (
-      kept_same c.self.inside.rows.entries c.self.inside.rows.entries c.self.inside.slots.slots c.reserve.new.self.slots c.self.inside.reaches.ends c.reserve-2.new.self.ends c.self.inside.lists refl (λ m. ap (λ (ss : List (Option Slot)). slot_at ss m) c.reserve.ensures.slots ∙ c.home_of.ensures.grown.programs m) (λ m q. c.reserve-2.ensures.counts m q ∙ c.home_of.ensures.grown.counts m q) (let more = c.home_of.ensures.grown.more in let long = c.reserve-2.ensures.numbers in omega arith) c.self.invariant.0,
-      planned_free c.self.inside.rows c.reserve.new.self c.reserve-2.new.self c.self.inside.lists c.self.inside.change none,
-    )
+    let i = c.self.inside in
+    let none = planned_none i.slots.slots i.rows.entries i.change (ap (λ (s : Standing). s.next) c.self.view_is ∙ c.requires.free) in
+    let same : (m : ℕ) → slot_at c.reserve.new.self.slots m ≡ slot_at i.slots.slots m = λ m. ap (λ (ss : List (Option Slot)). slot_at ss m) c.reserve.ensures.slots ∙ c.home_of.ensures.grown.programs m in
+    let counts : (m q : ℕ) → reach_at c.reserve-2.new.self.ends m q ≡ reach_at i.reaches.ends m q = λ m q. c.reserve-2.ensures.counts m q ∙ c.home_of.ensures.grown.counts m q in
+    let grown = c.home_of.ensures.grown.more in
+    let long = c.reserve-2.ensures.numbers in
+    let listed = listed_room i.rows.entries i.slots.slots c.reserve.new.self.slots i.reaches.ends i.lists i.change none same c.self.invariant.0 in
+    still_free i.rows i.rows i.slots c.reserve.new.self i.reaches c.reserve-2.new.self i.lists i.lists i.change none refl same counts (omega arith) c.self.invariant.0 listed
 
 pub returns-in_err-reserve-2-clause-now : goal.returns-in_err-reserve-2-clause-now
 returns-in_err-reserve-2-clause-now c = installed_slots c.self.inside.slots.slots c.reserve.new.self.slots c.self.inside.rows.entries (λ m. ap (λ (ss : List (Option Slot)). slot_at ss m) c.reserve.ensures.slots ∙ c.home_of.ensures.grown.programs m) ∙ ap (λ (s : Standing). s.now) c.self.view_is
@@ -83,91 +103,109 @@ returns-in_err-reserve-2-clause-free c =
     let none = planned_none c.self.inside.slots.slots c.self.inside.rows.entries c.self.inside.change (ap (λ (s : Standing). s.next) c.self.view_is ∙ c.requires.free) in
     on_err c.from_residual-in_err-reserve-2.result (next_of c.reserve.new.self.slots c.self.inside.rows.entries c.self.inside.change ≡ None) (ap (next_of c.reserve.new.self.slots c.self.inside.rows.entries) none)
 
-pub unreachable-requires-in-None-get : goal.unreachable-requires-in-None-get
-unreachable-requires-in-None-get c =
+pub exchange-requires-clause-one : goal.exchange-requires-clause-one
+exchange-requires-clause-one c =
+    let i = c.self.inside in
+    let same : (m : ℕ) → slot_at c.reserve.new.self.slots m ≡ slot_at i.slots.slots m = λ m. ap (λ (ss : List (Option Slot)). slot_at ss m) c.reserve.ensures.slots ∙ c.home_of.ensures.grown.programs m in
+    let counts : (m q : ℕ) → reach_at c.reserve-2.new.self.ends m q ≡ reach_at i.reaches.ends m q = λ m q. c.reserve-2.ensures.counts m q ∙ c.home_of.ensures.grown.counts m q in
+    let grown = c.home_of.ensures.grown.more in
+    let long = c.reserve-2.ensures.numbers in
     let old = c.in-Some.row.now in
-    let rows = c.self.inside.rows.entries in
-    let at : value_at rows c.args.id ≡ Some old = ap (λ (k : ℕ). value_at rows k) (sym c.from.ensures) ∙ sym c.in-Some.ensures in
-    let kept = kept_same c.self.inside.rows.entries c.self.inside.rows.entries c.self.inside.slots.slots c.reserve.new.self.slots c.self.inside.reaches.ends c.reserve-2.new.self.ends c.self.inside.lists refl (λ m. ap (λ (ss : List (Option Slot)). slot_at ss m) c.reserve.ensures.slots ∙ c.home_of.ensures.grown.programs m) (λ m q. c.reserve-2.ensures.counts m q ∙ c.home_of.ensures.grown.counts m q) (let more = c.home_of.ensures.grown.more in let long = c.reserve-2.ensures.numbers in omega arith) c.self.invariant.0 in
-    subst (λ (o : Option Slot). IsOneOf o old.held) (sym c.in-None-get.ensures) (one_of rows c.reserve.new.self.slots c.reserve-2.new.self.ends c.args.id old kept.booked at)
+    let at : value_at i.rows.entries c.args.id ≡ Some old = ap (λ (k : ℕ). value_at i.rows.entries k) (sym c.from.ensures) ∙ sym c.in-Some.ensures in
+    let booked = booked_same i.rows.entries i.rows.entries i.slots.slots c.reserve.new.self.slots i.reaches.ends c.reserve-2.new.self.ends refl same counts (omega arith) c.self.invariant.0.booked in
+    one_of i.rows.entries c.reserve.new.self.slots c.reserve-2.new.self.ends c.args.id old booked at
 
-pub exchanging-requires-clause-one : goal.exchanging-requires-clause-one
-exchanging-requires-clause-one c =
+pub exchange-requires-clause-held : goal.exchange-requires-clause-held
+exchange-requires-clause-held c =
+    let i = c.self.inside in
     let old = c.in-Some.row.now in
-    let rows = c.self.inside.rows.entries in
-    let at : value_at rows c.args.id ≡ Some old = ap (λ (k : ℕ). value_at rows k) (sym c.from.ensures) ∙ sym c.in-Some.ensures in
-    let there : slot_at c.reserve.new.self.slots old.number ≡ Some c.in-Some-get.slot.now = sym c.in-Some-get.ensures in
-    let kept = kept_same c.self.inside.rows.entries c.self.inside.rows.entries c.self.inside.slots.slots c.reserve.new.self.slots c.self.inside.reaches.ends c.reserve-2.new.self.ends c.self.inside.lists refl (λ m. ap (λ (ss : List (Option Slot)). slot_at ss m) c.reserve.ensures.slots ∙ c.home_of.ensures.grown.programs m) (λ m q. c.reserve-2.ensures.counts m q ∙ c.home_of.ensures.grown.counts m q) (let more = c.home_of.ensures.grown.more in let long = c.reserve-2.ensures.numbers in omega arith) c.self.invariant.0 in
-    subst (λ (o : Option Slot). IsOneOf o old.held) there (one_of rows c.reserve.new.self.slots c.reserve-2.new.self.ends c.args.id old kept.booked at)
+    let at : value_at i.rows.entries c.args.id ≡ Some old = ap (λ (k : ℕ). value_at i.rows.entries k) (sym c.from.ensures) ∙ sym c.in-Some.ensures in
+    held_there i.slots.slots i.rows.entries c.args.self.now.now c.args.id old (ap (λ (s : Standing). s.now) c.self.view_is) c.requires.held at
 
-pub exchanging-requires-clause-listed : goal.exchanging-requires-clause-listed
-exchanging-requires-clause-listed c =
-    let old = c.in-Some.row.now in
-    let rows = c.self.inside.rows.entries in
-    let at : value_at rows c.args.id ≡ Some old = ap (λ (k : ℕ). value_at rows k) (sym c.from.ensures) ∙ sym c.in-Some.ensures in
-    let there : slot_at c.reserve.new.self.slots old.number ≡ Some c.in-Some-get.slot.now = sym c.in-Some-get.ensures in
-    let kept = kept_same c.self.inside.rows.entries c.self.inside.rows.entries c.self.inside.slots.slots c.reserve.new.self.slots c.self.inside.reaches.ends c.reserve-2.new.self.ends c.self.inside.lists refl (λ m. ap (λ (ss : List (Option Slot)). slot_at ss m) c.reserve.ensures.slots ∙ c.home_of.ensures.grown.programs m) (λ m q. c.reserve-2.ensures.counts m q ∙ c.home_of.ensures.grown.counts m q) (let more = c.home_of.ensures.grown.more in let long = c.reserve-2.ensures.numbers in omega arith) c.self.invariant.0 in
-    let h0 = c.in_ok-home.ensures.home in
-    let number = c.in_ok-home.home.number in
-    let start = c.in_ok-home.home.program in
-    let next_lists = lists_after c.in_ok-home.home.lists c.self.inside.lists in
-    let h = subst (λ (ss : List (Option Slot)). IsHome ss (length c.home_of.new.reaches.ends) c.self.inside.lists c.in_ok-program.program c.in_ok-home.home) (sym c.in_ok-reserve.ensures.slots) h0 in
-    let off : old.number ≡ number → ⊥ = λ same. c.if-home-old.false (sym same) in
-    let v_listed = between_listed c.reserve.new.self.slots number start h.inside next_lists.running next_lists.resting h.listed in
-    let v_apart = between_apart c.reserve.new.self.slots number start h.inside h.begins kept.booked.apart in
-    let v_old = between_old c.reserve.new.self.slots number start h.inside old.number c.in-Some-get.slot.now off there in
-    listed_by (between c.reserve.new.self.slots c.in_ok-home.home.number c.in_ok-home.home.program) old next_lists v_listed v_apart c.in-Some-get.slot.now v_old
+pub exchange-requires-clause-begins : goal.exchange-requires-clause-begins
+exchange-requires-clause-begins c =
+    let home = c.in_ok-home.home in
+    let h = subst (λ (ss : List (Option Slot)). IsHome ss (length c.home_of.new.reaches.ends) c.in_ok-program.program home) (sym c.reserve.ensures.slots) c.in_ok-home.ensures.home in
+    h.begins
 
-pub invariant_of-self-in_err-change : goal.invariant_of-self-in_err-change
-invariant_of-self-in_err-change c =
-    let none = planned_none c.self.inside.slots.slots c.self.inside.rows.entries c.self.inside.change (ap (λ (s : Standing). s.next) c.self.view_is ∙ c.requires.free) in (
-      kept_same c.self.inside.rows.entries c.self.inside.rows.entries c.self.inside.slots.slots c.reserve.new.self.slots c.self.inside.reaches.ends c.reserve-2.new.self.ends c.self.inside.lists refl (λ m. ap (λ (ss : List (Option Slot)). slot_at ss m) c.reserve.ensures.slots ∙ c.home_of.ensures.grown.programs m) (λ m q. c.reserve-2.ensures.counts m q ∙ c.home_of.ensures.grown.counts m q) (let more = c.home_of.ensures.grown.more in let long = c.reserve-2.ensures.numbers in omega arith) c.self.invariant.0,
-      planned_free c.self.inside.rows c.reserve.new.self c.reserve-2.new.self c.self.inside.lists c.self.inside.change none,
-    )
+pub exchange-requires-clause-inside : goal.exchange-requires-clause-inside
+exchange-requires-clause-inside c =
+    let home = c.in_ok-home.home in
+    let h = subst (λ (ss : List (Option Slot)). IsHome ss (length c.home_of.new.reaches.ends) c.in_ok-program.program home) (sym c.reserve.ensures.slots) c.in_ok-home.ensures.home in
+    h.inside
 
-pub returns-in_err-change-clause-now : goal.returns-in_err-change-clause-now
-returns-in_err-change-clause-now c = installed_slots c.self.inside.slots.slots c.reserve.new.self.slots c.self.inside.rows.entries (λ m. ap (λ (ss : List (Option Slot)). slot_at ss m) c.reserve.ensures.slots ∙ c.home_of.ensures.grown.programs m) ∙ ap (λ (s : Standing). s.now) c.self.view_is
+pub exchange-requires-clause-other : goal.exchange-requires-clause-other
+exchange-requires-clause-other c =
+    λ same. c.if-home-old.false (sym same)
+
+pub exchange-requires-clause-apart : goal.exchange-requires-clause-apart
+exchange-requires-clause-apart c =
+    let i = c.self.inside in
+    let same : (m : ℕ) → slot_at c.reserve.new.self.slots m ≡ slot_at i.slots.slots m = λ m. ap (λ (ss : List (Option Slot)). slot_at ss m) c.reserve.ensures.slots ∙ c.home_of.ensures.grown.programs m in
+    let counts : (m q : ℕ) → reach_at c.reserve-2.new.self.ends m q ≡ reach_at i.reaches.ends m q = λ m q. c.reserve-2.ensures.counts m q ∙ c.home_of.ensures.grown.counts m q in
+    let grown = c.home_of.ensures.grown.more in
+    let long = c.reserve-2.ensures.numbers in
+    let booked = booked_same i.rows.entries i.rows.entries i.slots.slots c.reserve.new.self.slots i.reaches.ends c.reserve-2.new.self.ends refl same counts (omega arith) c.self.invariant.0.booked in
+    booked.apart
+
+pub exchange-requires-clause-listed : goal.exchange-requires-clause-listed
+exchange-requires-clause-listed c =
+    let i = c.self.inside in
+    let none = planned_none i.slots.slots i.rows.entries i.change (ap (λ (s : Standing). s.next) c.self.view_is ∙ c.requires.free) in
+    let same : (m : ℕ) → slot_at c.reserve.new.self.slots m ≡ slot_at i.slots.slots m = λ m. ap (λ (ss : List (Option Slot)). slot_at ss m) c.reserve.ensures.slots ∙ c.home_of.ensures.grown.programs m in
+    let listed = listed_room i.rows.entries i.slots.slots c.reserve.new.self.slots i.reaches.ends i.lists i.change none same c.self.invariant.0 in
+    listed
+
+pub invariant_of-self-in_err-exchange : goal.invariant_of-self-in_err-exchange
+invariant_of-self-in_err-exchange c =
+    let i = c.self.inside in
+    let none = planned_none i.slots.slots i.rows.entries i.change (ap (λ (s : Standing). s.next) c.self.view_is ∙ c.requires.free) in
+    let same : (m : ℕ) → slot_at c.reserve.new.self.slots m ≡ slot_at i.slots.slots m = λ m. ap (λ (ss : List (Option Slot)). slot_at ss m) c.reserve.ensures.slots ∙ c.home_of.ensures.grown.programs m in
+    let counts : (m q : ℕ) → reach_at c.reserve-2.new.self.ends m q ≡ reach_at i.reaches.ends m q = λ m q. c.reserve-2.ensures.counts m q ∙ c.home_of.ensures.grown.counts m q in
+    let grown = c.home_of.ensures.grown.more in
+    let long = c.reserve-2.ensures.numbers in
+    still_free i.rows i.rows i.slots c.reserve.new.self i.reaches c.reserve-2.new.self i.lists c.exchange.new.lists i.change none refl same counts (omega arith) c.self.invariant.0 c.in_err-exchange.ensures.undone
+
+pub returns-in_err-exchange-clause-now : goal.returns-in_err-exchange-clause-now
+returns-in_err-exchange-clause-now c =
+    let i = c.self.inside in
+    let same : (m : ℕ) → slot_at c.reserve.new.self.slots m ≡ slot_at i.slots.slots m = λ m. ap (λ (ss : List (Option Slot)). slot_at ss m) c.reserve.ensures.slots ∙ c.home_of.ensures.grown.programs m in
+    installed_slots i.slots.slots c.reserve.new.self.slots i.rows.entries same ∙ ap (λ (s : Standing). s.now) c.self.view_is
 
 pub invariant_of-self-2 : goal.invariant_of-self-2
 invariant_of-self-2 c =
+    let i = c.self.inside in
+    let none = planned_none i.slots.slots i.rows.entries i.change (ap (λ (s : Standing). s.next) c.self.view_is ∙ c.requires.free) in
+    let same : (m : ℕ) → slot_at c.reserve.new.self.slots m ≡ slot_at i.slots.slots m = λ m. ap (λ (ss : List (Option Slot)). slot_at ss m) c.reserve.ensures.slots ∙ c.home_of.ensures.grown.programs m in
+    let counts : (m q : ℕ) → reach_at c.reserve-2.new.self.ends m q ≡ reach_at i.reaches.ends m q = λ m q. c.reserve-2.ensures.counts m q ∙ c.home_of.ensures.grown.counts m q in
+    let grown = c.home_of.ensures.grown.more in
+    let long = c.reserve-2.ensures.numbers in
     let old = c.in-Some.row.now in
-    let rows = c.self.inside.rows.entries in
-    let at : value_at rows c.args.id ≡ Some old = ap (λ (k : ℕ). value_at rows k) (sym c.from.ensures) ∙ sym c.in-Some.ensures in
-    let there : slot_at c.reserve.new.self.slots old.number ≡ Some c.in-Some-get.slot.now = sym c.in-Some-get.ensures in
-    let kept = kept_same c.self.inside.rows.entries c.self.inside.rows.entries c.self.inside.slots.slots c.reserve.new.self.slots c.self.inside.reaches.ends c.reserve-2.new.self.ends c.self.inside.lists refl (λ m. ap (λ (ss : List (Option Slot)). slot_at ss m) c.reserve.ensures.slots ∙ c.home_of.ensures.grown.programs m) (λ m q. c.reserve-2.ensures.counts m q ∙ c.home_of.ensures.grown.counts m q) (let more = c.home_of.ensures.grown.more in let long = c.reserve-2.ensures.numbers in omega arith) c.self.invariant.0 in
-    let h0 = c.in_ok-home.ensures.home in
+    let at : value_at i.rows.entries c.args.id ≡ Some old = ap (λ (k : ℕ). value_at i.rows.entries k) (sym c.from.ensures) ∙ sym c.in-Some.ensures in
+    let booked = booked_same i.rows.entries i.rows.entries i.slots.slots c.reserve.new.self.slots i.reaches.ends c.reserve-2.new.self.ends refl same counts (omega arith) c.self.invariant.0.booked in
+    let home = c.in_ok-home.home in
+    let h = subst (λ (ss : List (Option Slot)). IsHome ss (length c.home_of.new.reaches.ends) c.in_ok-program.program home) (sym c.reserve.ensures.slots) c.in_ok-home.ensures.home in
     let number = c.in_ok-home.home.number in
     let start = c.in_ok-home.home.program in
-    let next_lists = lists_after c.in_ok-home.home.lists c.self.inside.lists in
-    let h = subst (λ (ss : List (Option Slot)). IsHome ss (length c.home_of.new.reaches.ends) c.self.inside.lists c.in_ok-program.program c.in_ok-home.home) (sym c.in_ok-reserve.ensures.slots) h0 in
-    let off : old.number ≡ number → ⊥ = λ same. c.if-home-old.false (sym same) in
-    let v_listed = between_listed c.reserve.new.self.slots number start h.inside next_lists.running next_lists.resting h.listed in
-    let v_apart = between_apart c.reserve.new.self.slots number start h.inside h.begins kept.booked.apart in
-    let v_old = between_old c.reserve.new.self.slots number start h.inside old.number c.in-Some-get.slot.now off there in
-    let held = held_there c.self.inside.slots.slots rows c.args.self.now.now c.args.id old (ap (λ (s : Standing). s.now) c.self.view_is) c.requires.held at in
+    let held = held_there i.slots.slots i.rows.entries c.args.self.now.now c.args.id old (ap (λ (s : Standing). s.now) c.self.view_is) c.requires.held at in
     let few = c.requires.few in
-    let long_rows = installed-length c.self.inside.slots.slots rows c.args.self.now.now (ap (λ (s : Standing). s.now) c.self.view_is) in
-    let short : length rows < 4294967295 = omega (arith, few, long_rows) in
-    let x = c.in_ok-change.ensures in
-    let row : Row = record old { number = number } in
-    let long = c.reserve-2.ensures.numbers in
+    let long_rows = installed-length i.slots.slots i.rows.entries c.args.self.now.now (ap (λ (s : Standing). s.now) c.self.view_is) in
+    let short : length i.rows.entries < 4294967295 = omega (arith, few, long_rows) in
     let below = h.number in
-    let goes = x.2 (between c.reserve.new.self.slots c.in_ok-home.home.number c.in_ok-home.home.program) v_listed v_apart v_old in (
-      kept,
-      subst (λ (ch : Change). IsPlanned c.self.inside.rows c.reserve.new.self c.reserve-2.new.self c.self.inside.lists (Some ch)) (sym x.1) (record {
+    subst (λ (x : Change). IsKept i.rows.entries c.reserve.new.self.slots c.reserve-2.new.self.ends c.exchange.new.lists (Some x) × IsPlanned i.rows c.reserve.new.self c.reserve-2.new.self (Some x)) (sym c.exchanging.ensures) (
+      record { booked = booked; listed = c.in_ok-exchange.ensures.done; ids = c.self.invariant.0.ids },
+      record {
         there = at;
-        other = off;
+        other = λ same_number. c.if-home-old.false (sym same_number);
         held = held;
         same = refl;
         begins = h.begins;
-        room = room_in rows c.reserve.new.self.slots c.reserve-2.new.self.ends number start kept.booked h.begins short;
+        room = room_in i.rows.entries c.reserve.new.self.slots c.reserve-2.new.self.ends number start booked h.begins short;
         slot = h.inside;
         number = omega (arith, below, long);
-        reach = record { room = λ _. c.in_ok-reserve-2.ensures.room; fits = λ _. reach_fits rows c.reserve.new.self.slots c.reserve-2.new.self.ends c.reserve-2.new.self.ends number old.endpoint kept.booked (λ m q. refl) short };
+        reach = record { room = λ _. c.in_ok-reserve-2.ensures.room; fits = λ _. reach_fits i.rows.entries c.reserve.new.self.slots c.reserve-2.new.self.ends c.reserve-2.new.self.ends number old.endpoint booked (λ m q. refl) short };
         go = may_go c.in_ok-reserve.ensures.ready (slot_at c.reserve.new.self.slots old.number);
-        listed = listed_same (slots_without (between c.reserve.new.self.slots c.in_ok-home.home.number c.in_ok-home.home.program) old) (slots_swapped c.reserve.new.self.slots old row start) (lists_after x.0 c.self.inside.lists).running (lists_after x.0 c.self.inside.lists).resting
-            (swapped_is c.reserve.new.self.slots number start h.inside old row refl held off) goes;
-      }),
+      },
     )
 
 pub returns-clause-now : goal.returns-clause-now
@@ -175,12 +213,13 @@ returns-clause-now c = installed_slots c.self.inside.slots.slots c.reserve.new.s
 
 pub returns-clause-planned : goal.returns-clause-planned
 returns-clause-planned c =
-    let x = c.in_ok-change.ensures in
+    let i = c.self.inside in
+    let same : (m : ℕ) → slot_at c.reserve.new.self.slots m ≡ slot_at i.slots.slots m = λ m. ap (λ (ss : List (Option Slot)). slot_at ss m) c.reserve.ensures.slots ∙ c.home_of.ensures.grown.programs m in
     let h = c.in_ok-home.ensures.home in
-    let now = installed_slots c.self.inside.slots.slots c.reserve.new.self.slots c.self.inside.rows.entries (λ m. ap (λ (ss : List (Option Slot)). slot_at ss m) c.reserve.ensures.slots ∙ c.home_of.ensures.grown.programs m) ∙ ap (λ (s : Standing). s.now) c.self.view_is in
+    let now = installed_slots i.slots.slots c.reserve.new.self.slots i.rows.entries same ∙ ap (λ (s : Standing). s.now) c.self.view_is in
     let is : c.in_ok-program.program ≡ c.args.program.now = c.in_ok-program.ensures ∙ c.in_ok-clone.ensures.cases in
     let own : program_in (base_slot c.reserve.new.self.slots c.in_ok-home.home.number c.in_ok-home.home.program) ≡ c.args.program.now =
-    ap (λ (ss : List (Option Slot)). program_in (base_slot ss c.in_ok-home.home.number c.in_ok-home.home.program)) c.in_ok-reserve.ensures.slots ∙ (h.own ∙ is) in
-    ap (λ (ch : Change). next_of c.reserve.new.self.slots c.self.inside.rows.entries (Some ch)) x.1
-    ∙ (ap (λ (p : List Insn). Some (map (replaced_by c.args.id p) (installed c.reserve.new.self.slots c.self.inside.rows.entries))) own
+    ap (λ (ss : List (Option Slot)). program_in (base_slot ss c.in_ok-home.home.number c.in_ok-home.home.program)) c.reserve.ensures.slots ∙ (h.own ∙ is) in
+    ap (λ (ch : Change). next_of c.reserve.new.self.slots i.rows.entries (Some ch)) c.exchanging.ensures
+    ∙ (ap (λ (p : List Insn). Some (map (replaced_by c.args.id p) (installed c.reserve.new.self.slots i.rows.entries))) own
     ∙ ap (λ (fs : List Installed). Some (map (replaced_by c.args.id c.args.program.now) fs)) now)
