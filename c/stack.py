@@ -14,8 +14,8 @@ import sys
 
 # Bytes that a call may take; all that aren't named take at most 2,048.
 MOST = {
-    "mkdemux_boot_cores": 3456,
-    "mkdemux_boot_limits_cores": 3456,
+    "mkdemux_boot_cores": 3520,
+    "mkdemux_boot_limits_cores": 3520,
     "mkdemux_turn": 3968,
     "mkdemux_settle": 3904,
 }

@@ -14,9 +14,8 @@ use Rattle.std.proofs.lemmas.Option.{slice_get_within, slice_get-get_or}
 use Rattle.bpf_insn.specs.declared.insn.Insn.{Insn}
 use Rattle.filter_group.specs.Order.{IsOrder, IsRank, constant_cmp, place_once_taken, program_cmp, shape_cmp, shape_constant}
 use Rattle.filter_group.specs.Programs.{AreWithout, IsAmong, place_before}
-use Rattle.filter_group.proofs.Edits.{insert_below, insert_here, insert_above, remove_below, remove_above, IsPut, put_before, put_it, put_after, is_put, IsLeft, left_before, left_after, is_left, pushed_below, pushed_here}
-use Rattle.filter_group.proofs.Indexed.{mapped, is_mapped, map_at}
-use Rattle.filter_group.proofs.Moving.{map_same, set_mapped}
+use Rattle.filter_group.proofs.Edits.{insert_below, insert_here, insert_above, remove_below, remove_above, IsPut, put_before, put_it, put_after, is_put, IsLeft, left_before, left_after, is_left, once_put, pushed_below, pushed_here}
+use Rattle.filter_group.proofs.Indexed.{is_mapped, map_at, map_same, mapped, set_mapped}
 use Rattle.filter_group.proofs.Sides.{one_thing}
 
 -- What an order says
@@ -227,24 +226,31 @@ order_none = record {
   rising = λ i j a b p q up at. absurd (let low = slice_get_within {A = ℕ} [] i a at in omega arith);
 }
 
+-- a program's place isn't before its rank
+pub from_rank : (programs : List (List Insn)) (order : List ℕ) (program : List Insn) (rank place : ℕ) → IsOrder programs order → IsRank programs order program rank
+    → slice_get programs place ≡ Some program → (i : ℕ) × (rank ≤ i) × (slice_get order i ≡ Some place)
+from_rank programs order program rank place h r runs =
+    let there = h.all place (slice_get_within programs place program runs) in
+    elim (cases_lt there.0 rank) [
+      | inl early ↦
+          let less = r.before there.0 place program early there.1 runs in
+          let tied = tied_itself program_total program in
+          absurd (let no : Less ≡ Equal = sym less ∙ tied in cc)
+      | inr late ↦ (there.0, late, there.1)
+    ]
+
 -- a program that isn't at its rank is none of them
 pub is_absent : (programs : List (List Insn)) (order : List ℕ) (program : List Insn) (rank : ℕ) → IsOrder programs order → IsRank programs order program rank
     → ((place : ℕ) → slice_get order rank ≡ Some place → slice_get programs place ≡ Some program → ⊥) → IsAmong programs program → ⊥
 is_absent programs order program rank h r not among =
-    let there = h.all among.0 (slice_get_within programs among.0 program among.1) in
-    elim (cases_lt there.0 rank) [
-      | inl early ↦
-          let less = r.before there.0 among.0 program early there.1 among.1 in
-          let tied = tied_itself program_total program in
-          absurd (let no : Less ≡ Equal = sym less ∙ tied in cc)
-      | inr late ↦
-          let low : rank < length order = let within = slice_get_within order there.0 among.0 there.1 in omega arith in
-          let a = place_of order rank low in
-          let p = at_of programs a.0 (h.each rank a.0 a.1) in
-          let most = h.rising rank there.0 a.0 among.0 p.0 program late a.1 there.1 p.1 among.1 in
-          let tied = tied_of (program_cmp p.0 program) most (r.after rank a.0 p.0 (omega arith) a.1 p.1) in
-          not a.0 a.1 (p.1 ∙ ap Some (program_same p.0 program tied))
-    ]
+    let there = from_rank programs order program rank among.0 h r among.1 in
+    let late = there.1 in
+    let low : rank < length order = let within = slice_get_within order there.0 among.0 there.2 in omega arith in
+    let a = place_of order rank low in
+    let p = at_of programs a.0 (h.each rank a.0 a.1) in
+    let most = h.rising rank there.0 a.0 among.0 p.0 program late a.1 there.2 p.1 among.1 in
+    let tied = tied_of (program_cmp p.0 program) most (r.after rank a.0 p.0 (omega arith) a.1 p.1) in
+    not a.0 a.1 (p.1 ∙ ap Some (program_same p.0 program tied))
 
 -- A search by halving: so many come before, and those from another place on don't
 
@@ -299,17 +305,6 @@ module _ (programs : List (List Insn)) (order : List ℕ) (program : List Insn) 
   fresh : (i : ℕ) → slice_get order i ≡ Some (length programs) → ⊥
   fresh i at = let low = h.each i (length programs) at in omega arith
 
-  put_once : (i j place : ℕ) → IsPut order rank (length programs) i place → IsPut order rank (length programs) j place → i ≡ j
-  put_once i j place (put_before low at) (put_before low' at') = h.once i j place at at'
-  put_once i j place (put_before low at) (put_it here is) = absurd (fresh i (at ∙ ap Some is))
-  put_once i j place (put_before low at) (put_after k up is at') = absurd (let same = h.once i k place at at' in omega arith)
-  put_once i j place (put_it here is) (put_before low at) = absurd (fresh j (at ∙ ap Some is))
-  put_once i j place (put_it here is) (put_it here' is') = here ∙ sym here'
-  put_once i j place (put_it here is) (put_after k up is' at) = absurd (fresh k (at ∙ ap Some is))
-  put_once i j place (put_after k up is at) (put_before low at') = absurd (let same = h.once k j place at at' in omega arith)
-  put_once i j place (put_after k up is at) (put_it here is') = absurd (fresh k (at ∙ ap Some is'))
-  put_once i j place (put_after k up is at) (put_after l up' is' at') = let same = h.once k l place at at' in omega arith
-
   old_at : (a : ℕ) (p : List Insn) (i : ℕ) → slice_get order i ≡ Some a → slice_get (programs ++ program ∷ []) a ≡ Some p → slice_get programs a ≡ Some p
   old_at a p i at there = sym (pushed_below programs program a (h.each i a at)) ∙ there
 
@@ -353,7 +348,7 @@ module _ (programs : List (List Insn)) (order : List ℕ) (program : List Insn) 
   pub order_put : IsOrder (programs ++ program ∷ []) (insert order rank (length programs))
   order_put = record {
     each = λ i a at. put_each i a (is_put order rank (length programs) i a r.within at);
-    once = λ i j a at at'. put_once i j a (is_put order rank (length programs) i a r.within at) (is_put order rank (length programs) j a r.within at');
+    once = once_put order h.once rank (length programs) r.within fresh;
     all = put_all;
     rising = λ i j a b p q up at at' there there'. put_rising i j a b p q up (is_put order rank (length programs) i a r.within at) (is_put order rank (length programs) j b r.within at') there there';
   }
@@ -506,6 +501,10 @@ module _ (order : List ℕ) (taken last renamed : ℕ) (once : (i j : ℕ) → s
 
   pub order_renamed : (rank : ℕ) → remove (slice_set order renamed taken) rank ≡ map (place_once_taken taken last) (remove order rank)
   order_renamed rank = ap (λ (xs : List ℕ). remove xs rank) last_renamed ∙ map_remove (place_once_taken taken last) order rank
+
+-- the last place goes itself
+pub order_kept : (order : List ℕ) (taken last : ℕ) → last ≡ taken → (rank : ℕ) → remove order rank ≡ map (place_once_taken taken last) (remove order rank)
+order_kept order taken last same rank = sym (map_same (place_once_taken taken last) (remove order rank) (λ i place at. grind (arith, nat_tests)))
 
 -- how far a place was looked for
 

@@ -1,6 +1,6 @@
 //! The order of programs, by which one is found.
 
-ghost use Rattle.std.specs.Prelude.{◌≡◌, ◌<◌, ◌≤◌, ℕ, IfOk, IsTrue, IsFalse, Some, length, map, slice_get};
+ghost use Rattle.std.specs.Prelude.{◌≡◌, ◌<◌, ◌≤◌, ℕ, IsTrue, IsFalse, Some, length, map, slice_get};
 ghost use Rattle.std.specs.List.{remove};
 ghost use Rattle.filter_group.specs.Order.{IsOrder, IsRank, place_once_taken, program_cmp};
 
@@ -8,8 +8,8 @@ use crate::placements::Placements;
 use crate::shape::{are_one_shape, is_alike, shape_order};
 use bpf_insn::Insn;
 use filter_verify::Verified;
-use std::alloc::AllocError;
 use std::cmp::Ordering;
+use tiered::Tiered;
 
 /// So many programs before and after one are looked at for one of its shape.
 const NEAREST: usize = 8;
@@ -35,15 +35,15 @@ fn program_order(a: &[Insn], b: &[Insn]) -> Ordering
 }
 
 /// How many of the ordered programs come before one.
-pub(crate) fn rank_of(placed: &Placements, order: &[u32], program: &[Insn]) -> usize
-    requires { IsOrder placed.now order.now }
-    ensures { IsRank placed.now order.now program.now result }
+pub(crate) fn rank_of(placed: &Placements, order: &Tiered<u32>, program: &[Insn]) -> usize
+    requires { IsOrder placed.now order.now.items }
+    ensures { IsRank placed.now order.now.items program.now result }
 {
     let mut low = 0;
     let mut high = order.len();
     while low < high {
         let middle = low + (high - low) / 2;
-        let place = order[middle] as usize;
+        let place = *order.at(middle) as usize;
         let other = placed.at(place).verified().code();
         if program_order(other, program).is_lt() {
             low = middle + 1;
@@ -57,13 +57,13 @@ pub(crate) fn rank_of(placed: &Placements, order: &[u32], program: &[Insn]) -> u
 /// The places of two programs of one's shape that are nearest to it in the order, as far as there are any.
 #[derive(Clone, Copy)]
 pub(crate) struct Near {
-    pub(crate) first: Option<usize>,
-    pub(crate) second: Option<usize>,
+    pub(crate) first: Option<u32>,
+    pub(crate) second: Option<u32>,
 }
 
 impl Near {
     /// One more, if there is one.
-    fn and(self, place: Option<usize>) -> Near {
+    fn and(self, place: Option<u32>) -> Near {
         if self.first.is_none() {
             Near {
                 first: place,
@@ -84,8 +84,13 @@ impl Near {
 // Mostly they are neighbours. Others that ask for another kind of packet may lie between.
 // Not in line: what it needs of the stack is free again before the deeper calls.
 #[inline(never)]
-pub(crate) fn near_to(placed: &Placements, order: &[u32], rank: usize, program: &Verified) -> Near
-    requires { IsOrder placed.now order.now }
+pub(crate) fn near_to(
+    placed: &Placements,
+    order: &Tiered<u32>,
+    rank: usize,
+    program: &Verified,
+) -> Near
+    requires { IsOrder placed.now order.now.items }
 {
     let mut near = Near {
         first: None,
@@ -104,44 +109,72 @@ pub(crate) fn near_to(placed: &Placements, order: &[u32], rank: usize, program: 
 }
 
 /// The place of the program of this rank, if it has this one's shape.
-fn alike_at(placed: &Placements, order: &[u32], rank: usize, program: &Verified) -> Option<usize>
-    requires { IsOrder placed.now order.now }
+fn alike_at(
+    placed: &Placements,
+    order: &Tiered<u32>,
+    rank: usize,
+    program: &Verified,
+) -> Option<u32>
+    requires { IsOrder placed.now order.now.items }
 {
-    let place = *order.get(rank)? as usize;
-    if are_one_shape(placed.at(place).verified(), program) {
+    if rank >= order.len() {
+        return None;
+    }
+    let place = *order.at(rank);
+    if are_one_shape(placed.at(place as usize).verified(), program) {
         Some(place)
     } else {
         None
     }
 }
 
-/// A place in half the room, of which an order is made.
-pub(crate) fn in_half(place: usize) -> Result<u32, AllocError>
-    ensures same { IfOk result (λ half. half ≡ place) }
-    ensures small { IfOk result (λ half. half < 4294967296) }
-{
-    // No list is that long.
-    u32::try_from(place).ok().ok_or(AllocError)
-}
-
 /// Takes a place out of the order, and gives it to the last, whose program has it then.
 // Not in line: what it needs of the stack is free again before the deeper calls.
 #[inline(never)]
-pub(crate) fn take_place(order: &mut Vec<u32>, taken: u32, last: u32)
-    requires taken { (rank : ℕ) × (slice_get order.old.items rank ≡ Some taken) }
-    requires last { (rank : ℕ) × (slice_get order.old.items rank ≡ Some last) }
-    requires once { (i j : ℕ) → slice_get order.old.items i ≡ Some last → slice_get order.old.items j ≡ Some last → i ≡ j }
+pub(crate) fn take_place(placed: &Placements, order: &mut Tiered<u32>, taken: u32, last: u32)
+    requires order { IsOrder placed.now order.old.items }
+    requires taken { taken < length placed.now }
+    requires last { last < length placed.now }
     ensures { (rank : ℕ) × (slice_get order.old.items rank ≡ Some taken) × (order.new.items ≡ map (place_once_taken taken last) (remove order.old.items rank)) }
 {
-    let rank = rank_at(order, taken);
-    let renamed = rank_at(order, last);
-    order[renamed] = taken;
+    let rank = rank_at(placed, order, taken);
+    if last != taken {
+        let renamed = rank_at(placed, order, last);
+        order.set(renamed, taken);
+    }
     order.remove(rank);
 }
 
 /// Where a place is in the order.
+fn rank_at(placed: &Placements, order: &Tiered<u32>, place: u32) -> usize
+    requires order { IsOrder placed.now order.now.items }
+    requires within { place < length placed.now }
+    ensures { slice_get order.now.items result ≡ Some place }
+{
+    match order.as_slice() {
+        Some(order) => rank_among(order, place),
+        None => rank_past(placed, order, place),
+    }
+}
+
+/// Where a place is in the order, found by its program: past all that are less, and then on to the place.
+fn rank_past(placed: &Placements, order: &Tiered<u32>, place: u32) -> usize
+    requires order { IsOrder placed.now order.now.items }
+    requires within { place < length placed.now }
+    ensures { slice_get order.now.items result ≡ Some place }
+{
+    let first = rank_of(placed, order, placed.at(place as usize).verified().code());
+    for rank in first..order.len() {
+        if *order.at(rank) == place {
+            return rank;
+        }
+    }
+    unreachable!()
+}
+
+/// Where a place is among these.
 // By halving, and not by its program: to compare programs takes longer than to look at many places at once.
-fn rank_at(order: &[u32], place: u32) -> usize
+fn rank_among(order: &[u32], place: u32) -> usize
     requires { (rank : ℕ) × (slice_get order.now rank ≡ Some place) }
     ensures { slice_get order.now result ≡ Some place }
 {

@@ -1,12 +1,19 @@
-use Rattle.std.proofs.Common.{◌≡◌, ◌∙◌, List, ℕ, Some, slice_get, subst}
-use Rattle.filter_group.proofs.Sorting.{order_renamed}
+use Rattle.std.proofs.Common.{◌≡◌, ◌∙◌, ap, ℕ, map}
+use Rattle.std.specs.List.{remove}
+use Rattle.tiered.specs.Lists.{TieredList}
+use Rattle.filter_group.specs.Order.{place_once_taken}
+use Rattle.filter_group.proofs.Sorting.{order_kept, order_renamed}
+use Rattle.filter_group.proofs.order.take_place.Goals.{then-last-taken, else-last-taken}
 use Rattle.filter_group.proofs.order.take_place.Goals as goal
 
 pub returns : goal.returns
 returns c =
     let order = c.args.order.now.items in
     let rank = c.rank_at-rank.result in
-    let renamed = c.rank_at-renamed.result in
-    let taken : slice_get order rank ≡ Some c.args.taken = subst (λ (o : List ℕ). slice_get o rank ≡ Some c.args.taken) c.deref.ensures.value c.rank_at-rank.ensures in
-    let last : slice_get order renamed ≡ Some c.args.last = subst (λ (o : List ℕ). slice_get o renamed ≡ Some c.args.last) c.deref-2.ensures.value c.rank_at-renamed.ensures in
-    (rank, taken, c.remove.ensures.items ∙ order_renamed order c.args.taken c.args.last renamed c.requires.once last rank)
+    let left : remove c.if-last-taken.order.items rank ≡ map (place_once_taken c.args.taken c.args.last) (remove order rank) = elim c.if-last-taken.branch [
+      | then-last-taken w ↦
+          ap (λ (t : TieredList ℕ). remove t.items rank) (w.order-is ∙ w.set.ensures)
+          ∙ order_renamed order c.args.taken c.args.last w.rank_at-renamed.result (λ i j. c.requires.order.once i j c.args.last) w.rank_at-renamed.ensures rank
+      | else-last-taken w ↦ ap (λ (t : TieredList ℕ). remove t.items rank) w.order-is ∙ order_kept order c.args.taken c.args.last w.if-last-taken.false rank
+    ] in
+    (rank, c.rank_at-rank.ensures, ap (λ (t : TieredList ℕ). t.items) c.remove.ensures.items ∙ left)

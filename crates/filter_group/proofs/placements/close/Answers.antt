@@ -1,26 +1,27 @@
-use Rattle.std.proofs.Common.{arith, ap, sym, subst, ◌∙◌, ◌≡◌, ◌<◌, ◌+◌, ◌-◌, ℕ, List, length, map, Some, slice_get, get_or}
+use Rattle.std.proofs.Common.{arith, ap, sym, subst, ◌∙◌, ◌≡◌, ◌<◌, ◌+◌, ◌-◌, ℕ, List, length, Some, slice_get, get_or}
 use Rattle.std.specs.Vec.{with_items}
-use Rattle.std.proofs.lemmas.List.{length-map, with_items_is}
-use Rattle.std.proofs.lemmas.Option.{slice_get-get_or}
-use Rattle.filter_group.specs.declared.places.Spot.{Spot}
-use Rattle.filter_group.specs.Places.{HaveSpots, IsKept, renumbered}
-use Rattle.filter_group.proofs.Closing.{closed_indexed, closed_parts, closed_programs}
-use Rattle.filter_group.proofs.Moving.{have_spots}
+use Rattle.std.proofs.lemmas.List.{with_items_is}
+use Rattle.std.proofs.lemmas.Option.{slice_get-get_or, slice_get_within}
+use Rattle.filter_group.specs.Placed.{Placed}
+use Rattle.filter_group.specs.Places.{AreRenumbered, IsIndexed}
+use Rattle.filter_group.proofs.Closing.{closed, closed_parts}
+use Rattle.filter_group.proofs.Sides.{one_thing}
 use Rattle.filter_group.proofs.placements.close.Goals as goal
 
 pub renumber-requires : goal.renumber-requires
-renumber-requires c =
-    let spots = c.args.spots.now.items in
+renumber-requires c = λ member place at_place.
+    let groups = c.args.groups.now.items in
     let parts = c.args.parts.now.items in
     let last : ℕ = c.len-last.result - 1 in
     let part = c.index-2.result.now in
     let low : last < length parts = let inside = c.if-number-len.false in let first = c.len.ensures in let second = c.len-last.ensures in let ok = c.args.parts.now.ok.0 in omega arith in
     let at : slice_get parts last ≡ Some part = slice_get-get_or parts last part low ∙ ap Some (sym c.index-2.ensures) in
-    (last, subst (λ (xs : List Spot). HaveSpots xs last c.places.result.now) (sym c.deref_mut.ensures.value) (subst (HaveSpots spots last) (sym c.places.ensures) (have_spots spots parts c.requires last part at)))
+    let within = slice_get_within groups place last ((c.requires.1.each last part at).back member place at_place).0 in
+    omega (arith, ap (length {A = ℕ}) c.deref_mut.ensures.value)
 
 pub returns : goal.returns
-returns c =
-    let spots = c.args.spots.now.items in
+returns c = λ programs h.
+    let groups = c.args.groups.now.items in
     let parts = c.args.parts.now.items in
     let group = c.args.group in
     let last : ℕ = length parts - 1 in
@@ -30,20 +31,16 @@ returns c =
     let long : length parts ≡ last + 1 = omega arith in
     let empty = c.index.result.now in
     let at_group : slice_get parts group ≡ Some empty = slice_get-get_or parts group empty inside ∙ ap Some (sym c.index.ensures) in
+    let none = c.is_empty.ensures c.if-not-is_empty.false in
     let part = c.index-2.result.now in
     let low' : c.len-last.result - 1 < length parts = omega arith in
-    let at : slice_get parts last ≡ Some part =
-    subst (λ (n : ℕ). slice_get parts n ≡ Some part) there (slice_get-get_or parts (c.len-last.result - 1) part low' ∙ ap Some (sym c.index-2.ensures)) in
+    let at : slice_get parts last ≡ Some part = subst (λ (n : ℕ). slice_get parts n ≡ Some part) there (slice_get-get_or parts (c.len-last.result - 1) part low' ∙ ap Some (sym c.index-2.ensures)) in
     let moved = get_or parts last c.swap_remove.result in
     let at_last : slice_get parts last ≡ Some moved = slice_get-get_or parts last c.swap_remove.result low in
-    let have : HaveSpots spots last c.places.result.now = subst (HaveSpots spots last) (sym c.places.ensures) (have_spots spots parts c.requires last part at) in
-    let have_lent = subst (λ (xs : List Spot). HaveSpots xs last c.places.result.now) (sym c.deref_mut.ensures.value) have in
-    let is : c.renumber.new.spots ≡ map (renumbered last group) spots = c.renumber.ensures last have_lent ∙ ap (map (renumbered last group)) c.deref_mut.ensures.value in
-    let same_length : length c.renumber.new.spots ≡ length spots = ap (length {A = Spot}) is ∙ length-map spots (renumbered last group) in
-    let whole : (with_items c.args.spots.now c.renumber.new.spots).items ≡ map (renumbered last group) spots = with_items_is c.args.spots.now c.renumber.new.spots (omega (arith, same_length)) ∙ is in
-    let left : c.swap_remove.new.self.items ≡ closed_parts spots parts c.requires group last empty moved at_group (c.is_empty.ensures c.if-not-is_empty.false) long at_last = c.swap_remove.ensures.items in
-    subst (λ (xs : List Spot). IsKept spots parts xs c.swap_remove.new.self.items) (sym whole)
-    (subst (IsKept spots parts (map (renumbered last group) spots)) (sym left) (record {
-      indexed = closed_indexed spots parts c.requires group last empty moved at_group (c.is_empty.ensures c.if-not-is_empty.false) long at_last;
-      programs = closed_programs spots parts c.requires group last empty moved at_group (c.is_empty.ensures c.if-not-is_empty.false) long at_last;
-    }))
+    let are : AreRenumbered groups moved.places group c.renumber.new.groups =
+    subst (λ (p : Placed). AreRenumbered groups p.places group c.renumber.new.groups) (one_thing parts last part moved at at_last)
+    (subst (λ (xs : List ℕ). AreRenumbered xs part.places group c.renumber.new.groups) c.deref_mut.ensures.value c.renumber.ensures) in
+    let whole : (with_items c.args.groups.now c.renumber.new.groups).items ≡ c.renumber.new.groups = with_items_is c.args.groups.now c.renumber.new.groups (omega (arith, are.count)) in
+    let left : c.swap_remove.new.self.items ≡ closed_parts programs groups parts h group last empty moved at_group none long at_last c.renumber.new.groups are = c.swap_remove.ensures.items in
+    subst (λ (xs : List ℕ). IsIndexed programs xs c.swap_remove.new.self.items) (sym whole)
+    (subst (IsIndexed programs c.renumber.new.groups) (sym left) (closed programs groups parts h group last empty moved at_group none long at_last c.renumber.new.groups are))

@@ -1,0 +1,280 @@
+/* What packets and changes take on one core with many filters. Nanoseconds and microseconds of processor time, medians. Built by large.sh
+ * over the C library of cores.
+ *
+ *     large FILTERS SHAPE ORDER      SHAPE: port, host, tuple or ten; ORDER: random, rising, falling or alternating
+ *
+ * Filters number 0, 1, ..: of `port` udp dst port N, of `host` udp and a destination host and port, of `tuple` a TCP 5-tuple, of `ten` ten
+ * shapes by turns. They are put in in this order of their numbers. A packet that nobody takes has a host between those of two filters, or
+ * port 0. */
+#include <stdint.h>
+#include <stdio.h>
+#include <stdlib.h>
+#include <string.h>
+#include <time.h>
+
+#include "mkdemux_cores.h"
+
+enum { DOMAIN = 1, ENDPOINT = 7, MOST = 65536, LENGTH = 128, FLOWS = 16, ROUNDS = 21, PACKETS = 4096, CHANGES = 400 };
+enum { TCP = 6, UDP = 17, ICMP = 1 };
+
+static mkdemux_core core = {NULL};
+
+static double now(clockid_t clock)
+{
+    struct timespec time;
+    clock_gettime(clock, &time);
+    return (double)time.tv_sec * 1e9 + (double)time.tv_nsec;
+}
+
+static void fail(const char *why)
+{
+    fprintf(stderr, "large: %s\n", why);
+    exit(2);
+}
+
+static uint32_t draw(uint32_t below)
+{
+    static uint64_t state = 12345;
+    state = state * 6364136223846793005u + 1442695040888963407u;
+    return (uint32_t)((state >> 33) % below);
+}
+
+/* ---- Filters and the packets that they take ---- */
+
+struct code {
+    struct mkdemux_insn at[32];
+    size_t count;
+};
+
+static void put(struct code *code, uint16_t op, uint8_t jt, uint8_t jf, uint32_t k)
+{
+    code->at[code->count++] = (struct mkdemux_insn){op, jt, jf, k};
+}
+
+/* Loads a field, and goes on where it is this number. The jumps past the end are set by `ended`. */
+static void test(struct code *code, uint16_t load, uint32_t from, uint32_t is)
+{
+    put(code, load, 0, 0, from);
+    put(code, 0x15, 0, 255, is);
+}
+
+static void ended(struct code *code)
+{
+    put(code, 0x06, 0, 0, 65535);
+    put(code, 0x06, 0, 0, 0);
+    for (size_t at = 0; at < code->count; at++)
+        if (code->at[at].jf == 255) code->at[at].jf = (uint8_t)(code->count - 2 - at);
+}
+
+enum { WORD = 0x20, HALF = 0x28, BYTE = 0x30, PORT = 0x48 };
+
+static void begun(struct code *code, uint32_t protocol)
+{
+    code->count = 0;
+    test(code, HALF, 12, 0x800);
+    test(code, BYTE, 23, protocol);
+}
+
+static void ports(struct code *code)
+{
+    put(code, HALF, 0, 0, 20);
+    put(code, 0x45, 0, 0, 0x1fff);
+    code->at[code->count - 1].jt = 254; /* (set below) */
+    put(code, 0xb1, 0, 0, 14);
+}
+
+static void fragments(struct code *code)
+{
+    for (size_t at = 0; at < code->count; at++)
+        if (code->at[at].jt == 254) code->at[at].jt = (uint8_t)(code->count - 2 - at);
+}
+
+static void put32(uint8_t *at, uint32_t value)
+{
+    at[0] = (uint8_t)(value >> 24), at[1] = (uint8_t)(value >> 16), at[2] = (uint8_t)(value >> 8), at[3] = (uint8_t)value;
+}
+
+static void put16(uint8_t *at, uint32_t value)
+{
+    at[0] = (uint8_t)(value >> 8), at[1] = (uint8_t)value;
+}
+
+/* The filter of a number, and a packet that it takes. `gap` is 1 for a packet that no filter takes. */
+static void make(const char *shape, uint32_t number, int gap, struct code *code, uint8_t *packet)
+{
+    memset(packet, 0, LENGTH);
+    put16(packet + 12, 0x800);
+    packet[14] = 0x45;
+    int kind = !strcmp(shape, "port") ? 0 : !strcmp(shape, "host") ? 10 : !strcmp(shape, "tuple") ? 11 : (int)(number % 10);
+    uint32_t name = !strcmp(shape, "ten") ? number / 10 : number;
+    uint32_t host = 0x0a000000 + 2 * name + (uint32_t)gap, port = gap ? 0 : name % 65535 + 1;
+    uint32_t protocol = kind == 9 ? ICMP : kind == 2 || kind == 3 || kind == 6 || kind == 7 || kind == 11 ? TCP : UDP;
+    packet[23] = (uint8_t)protocol;
+    begun(code, protocol);
+    switch (kind) {
+    case 0: case 2: ports(code); test(code, PORT, 16, port); put16(packet + 36, port); break;
+    case 1: case 3: ports(code); test(code, PORT, 14, port); put16(packet + 34, port); break;
+    case 4: case 6: case 9: test(code, WORD, 30, host); put32(packet + 30, host); break;
+    case 5: case 7: test(code, WORD, 26, host); put32(packet + 26, host); break;
+    case 8:
+        code->count = 0;
+        test(code, WORD, 2, host);
+        put32(packet + 2, host);
+        put16(packet + 12, 0x806);
+        break;
+    case 10:
+        test(code, WORD, 30, 0x0a000000 + 2 * (name / 16) + (uint32_t)gap);
+        put32(packet + 30, 0x0a000000 + 2 * (name / 16) + (uint32_t)gap);
+        ports(code);
+        test(code, PORT, 16, 1000 + name % 16);
+        put16(packet + 36, 1000 + name % 16);
+        break;
+    default:
+        test(code, WORD, 26, 0x0a000000 + name % 256);
+        put32(packet + 26, 0x0a000000 + name % 256);
+        test(code, WORD, 30, 0x0b000000 + 2 * (name / 4096) + (uint32_t)gap);
+        put32(packet + 30, 0x0b000000 + 2 * (name / 4096) + (uint32_t)gap);
+        ports(code);
+        test(code, PORT, 14, 1024 + name % 61);
+        put16(packet + 34, 1024 + name % 61);
+        test(code, PORT, 16, name / 256 % 16);
+        put16(packet + 36, name / 256 % 16);
+        break;
+    }
+    ended(code);
+    fragments(code);
+}
+
+/* ---- Changes ---- */
+
+static uint32_t decided(uint32_t asked)
+{
+    mkdemux_turned turned;
+    if (asked != MKDEMUX_CORE_OK) fail("a request was not taken");
+    do {
+        if (mkdemux_turn(&core, &turned) != MKDEMUX_CORE_OK) fail("a turn failed");
+    } while (turned.what != MKDEMUX_TURN_DECISION);
+    if (turned.decision != MKDEMUX_COMMITTED) fail("a request was not committed");
+    return turned.made;
+}
+
+static uint32_t install(const struct code *code)
+{
+    return decided(mkdemux_ask_install(&core, DOMAIN, 1, code->at, code->count));
+}
+
+/* Which number comes as the one at a place of the order. */
+static uint32_t number_at(const char *order, uint32_t at, uint32_t count)
+{
+    if (!strcmp(order, "rising")) return at;
+    if (!strcmp(order, "falling")) return count - 1 - at;
+    if (!strcmp(order, "alternating")) return at % 2 ? count - 1 - at / 2 : at / 2;
+    return at; /* (shuffled later) */
+}
+
+static int by_size(const void *a, const void *b)
+{
+    double one = *(const double *)a, other = *(const double *)b;
+    return (one > other) - (one < other);
+}
+
+static double median(double *values, size_t count)
+{
+    qsort(values, count, sizeof *values, by_size);
+    return values[count / 2];
+}
+
+static void changes(const char *shape, uint32_t filters)
+{
+    static double put_in[CHANGES], replaced[CHANGES], taken_out[CHANGES];
+    double longest = 0;
+    for (int i = 0; i < CHANGES; i++) {
+        struct code one, other;
+        uint8_t packet[LENGTH];
+        /* (numbers that no filter has) */
+        make(shape, filters + draw(MOST - filters), 0, &one, packet);
+        make(shape, filters + draw(MOST - filters), 0, &other, packet);
+        double begin = now(CLOCK_THREAD_CPUTIME_ID), end;
+        uint32_t id = install(&one);
+        put_in[i] = (end = now(CLOCK_THREAD_CPUTIME_ID)) - begin;
+        decided(mkdemux_ask_replace(&core, DOMAIN, id, other.at, other.count));
+        begin = now(CLOCK_THREAD_CPUTIME_ID);
+        replaced[i] = begin - end;
+        decided(mkdemux_ask_remove(&core, DOMAIN, id));
+        taken_out[i] = now(CLOCK_THREAD_CPUTIME_ID) - begin;
+        if (put_in[i] > longest) longest = put_in[i];
+        if (replaced[i] > longest) longest = replaced[i];
+        if (taken_out[i] > longest) longest = taken_out[i];
+    }
+    printf("; install %.2f us, replace %.2f, remove %.2f, longest %.1f", median(put_in, CHANGES) / 1e3, median(replaced, CHANGES) / 1e3,
+        median(taken_out, CHANGES) / 1e3, longest / 1e3);
+}
+
+/* ---- Packets ---- */
+
+static uint8_t packets[PACKETS][LENGTH];
+
+static double packet_time(uint64_t *received)
+{
+    static double rounds[ROUNDS];
+    struct mkdemux_kept room[64];
+    for (int round = 0; round < ROUNDS; round++) {
+        double begin = now(CLOCK_THREAD_CPUTIME_ID);
+        for (int i = 0; i < PACKETS; i++) {
+            size_t count;
+            if (mkdemux_receive(&core, packets[i], LENGTH, LENGTH, room, 64, &count)) fail("a receipt fails");
+            *received += count;
+        }
+        rounds[round] = (now(CLOCK_THREAD_CPUTIME_ID) - begin) / PACKETS;
+    }
+    return median(rounds, ROUNDS);
+}
+
+/* Packets for filters: none, some flows, any. */
+static void receive(const char *shape, uint32_t filters, uint32_t flows, int gap, const char *what)
+{
+    struct code code;
+    uint64_t received = 0;
+    uint32_t first = draw(filters);
+    for (int i = 0; i < PACKETS; i++) {
+        uint32_t flow = draw(flows);
+        make(shape, flows < filters ? (first + flow * (filters / flows)) % filters : flow, gap, &code, packets[i]);
+    }
+    double time = packet_time(&received);
+    if ((received == 0) != gap) fail("packets reach whom they shouldn't");
+    printf("; %s %.0f ns", what, time);
+}
+
+int main(int argc, char **argv)
+{
+    static uint32_t numbers[MOST];
+    if (argc != 4 || atoi(argv[1]) < 1 || atoi(argv[1]) > MOST - 16) fail("usage: large FILTERS port|host|tuple|ten random|rising|falling|alternating");
+    uint32_t filters = (uint32_t)atoi(argv[1]), budget = 0x7fffffff;
+    struct mkdemux_limits limits = {MOST, MOST, 0, 0, 0};
+    if (mkdemux_boot_limits(&limits, &budget, 1, &core) != MKDEMUX_CORE_OK) fail("no machine");
+    decided(mkdemux_ask_create(&core, DOMAIN, ENDPOINT));
+    for (uint32_t at = 0; at < filters; at++) numbers[at] = number_at(argv[3], at, filters);
+    for (uint32_t at = filters; at-- > 1 && !strcmp(argv[3], "random");) {
+        uint32_t other = draw(at + 1), number = numbers[at];
+        numbers[at] = numbers[other];
+        numbers[other] = number;
+    }
+    double begin = now(CLOCK_THREAD_CPUTIME_ID), longest = 0, last = begin;
+    for (uint32_t at = 0; at < filters; at++) {
+        struct code code;
+        uint8_t packet[LENGTH];
+        make(argv[2], numbers[at], 0, &code, packet);
+        install(&code);
+        double end = now(CLOCK_THREAD_CPUTIME_ID);
+        if (end - last > longest) longest = end - last;
+        last = end;
+    }
+    printf("%u %s %s: filled in %.2f us each, longest %.0f us", (unsigned)filters, argv[2], argv[3], (last - begin) / 1e3 / filters, longest / 1e3);
+    receive(argv[2], filters, filters, 1, "nobody");
+    receive(argv[2], filters, filters < FLOWS ? filters : FLOWS, 0, "16 flows");
+    receive(argv[2], filters, filters, 0, "any");
+    changes(argv[2], filters);
+    printf("\n");
+    mkdemux_close(&core);
+    return 0;
+}

@@ -1,0 +1,6 @@
+pub mod Keeping
+pub mod Parts
+pub mod Places
+pub mod Rings
+pub mod Turns
+pub mod Whole

@@ -1,0 +1,54 @@
+//! Blocks that are made whole.
+
+ghost use Rattle.std.specs.Prelude.{◌≡◌, ◌<◌, ◌≤◌, IfOk, replicate, vec_len, vec_capacity};
+
+use crate::block::{Block, MOST};
+use std::alloc::{AllocError, Global};
+
+/// So many times an item, with memory for so many items.
+pub(crate) fn repeat<T: Copy>(
+    alloc: Global,
+    item: T,
+    count: usize,
+    room: usize,
+) -> Result<Vec<T>, AllocError>
+    ensures items { IfOk result (λ items. items.items ≡ replicate count item) }
+    ensures room { IfOk result (λ items. room ≤ vec_capacity items) }
+{
+    let mut items = Vec::with_capacity(alloc, room)?;
+    for _made in 0..count {
+        items.push(item)?;
+    }
+    Ok(items)
+}
+
+/// So many blocks of one item alone, with memory for one more.
+pub(crate) fn repeat_blocks<T: Copy>(
+    alloc: Global,
+    item: T,
+    count: usize,
+) -> Result<Vec<Block<T>>, AllocError>
+    ensures items { IfOk result (λ blocks. blocks.items ≡ replicate count (replicate 2048 item)) }
+    ensures room { IfOk result (λ blocks. vec_len blocks < vec_capacity blocks) }
+{
+    let mut blocks = Vec::new(alloc);
+    for _made in 0..count {
+        blocks.push(Block::new(repeat(alloc, item, MOST, MOST)?))?;
+    }
+    blocks.reserve(1)?;
+    Ok(blocks)
+}
+
+/// Equal blocks.
+pub(crate) fn copy_blocks<T: Copy>(
+    alloc: Global,
+    blocks: &[Block<T>],
+) -> Result<Vec<Block<T>>, AllocError>
+    ensures { IfOk result (λ copies. copies.items ≡ blocks.now) }
+{
+    let mut copies = Vec::with_capacity(alloc, blocks.len())?;
+    for place in 0..blocks.len() {
+        copies.push(blocks[place].copy(alloc)?)?;
+    }
+    Ok(copies)
+}
