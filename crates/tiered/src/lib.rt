@@ -8,5 +8,6 @@ mod carry;
 mod copies;
 mod edits;
 mod list;
+mod tiers;
 
 pub use list::Tiered;

@@ -1,58 +1,75 @@
-//! Lists in tiers.
+//! Lists in tiers, of which a short one is a vector alone.
 
-ghost use Rattle.std.specs.Prelude.{◌≡◌, ◌+◌, ◌<◌, ◌≤◌, ◌++◌, ◌∷◌, ◌^◌, ◌↔◌, [], Some, IfSome, IsSome, IsTrue, OnOk, OnErr, IfOk, Bool, true, false, length, replicate, slice_get, slice_set};
+ghost use Rattle.std.specs.Prelude.{◌≡◌, ◌<◌, ◌≤◌, ◌++◌, ◌∷◌, ◌^◌, ◌↔◌, [], Some, IfSome, IsSome, IsTrue, OnOk, OnErr, IfOk, Bool, true, false, length, replicate, slice_get, slice_set};
 ghost use Rattle.std.specs.List.{insert, remove};
 
-use crate::block::{Block, MOST};
-use crate::copies::{copy_blocks, repeat, repeat_blocks};
-use crate::edits::{
-    close_end, drop_empty, insert_at, make_room, open_for_insert, open_for_remove, remove_at,
-};
+use crate::block::MOST;
+use crate::copies::repeat;
+use crate::tiers::Tiers;
 use std::alloc::{AllocError, Global};
 use std::marker::Model;
-
-/// So many items a list has at most, so that they can be counted.
-const MOST_ITEMS: usize = 1 << 62;
+use std::mem;
 
 /// A list in tiers. An insert for which room was made before takes no memory and can't fail, nor does a removal.
 ///
 /// An edit moves up to 2,048 items beside each other, and then one item of each block that comes after them.
+// Owners hold many of these and move them by value, so what only a long list needs lies behind a box.
 pub struct Tiered<T> {
     alloc: Global,
-    /// All items of a list that has more than 2,048. The blocks before the last are full.
-    blocks: Vec<Block<T>>,
-    /// All items of a shorter list.
-    last: Vec<T>,
-    /// Empty memory for the next block.
-    spare: Vec<T>,
-    count: usize,
-    ready: bool,
+    form: Form<T>,
+}
+
+const _: () = prove!(mem::size_of::<Tiered<u32>>() <= 40);
+
+/// How the items lie.
+enum Form<T> {
+    /// Up to 2,048 items side by side, and whether one more insert takes no memory.
+    Few { items: Vec<T>, ready: bool },
+    /// All items of a list that has more, or had more before it got short again.
+    Many { all: Box<Tiers<T>> },
+}
+
+// By hand, so that the proofs of its owners have one call and not a drop of each part.
+impl<T: Drop> Drop for Form<T> {
+    fn drop(self) {
+        match self {
+            Form::Few { items: _, ready: _ } => {}
+            Form::Many { all: _ } => {}
+        }
+    }
 }
 
 // By hand, so that the proofs of its owners have one call and not a drop of each part.
 impl<T: Drop> Drop for Tiered<T> {
     fn drop(self) {
-        let Tiered {
-            alloc: _,
-            blocks: _,
-            last: _,
-            spare: _,
-            count: _,
-            ready: _,
-        } = self;
+        let Tiered { alloc: _, form: _ } = self;
     }
 }
 
 impl<T> Model for Tiered<T> {
-    ghost use Rattle.std.specs.Prelude.{◌++◌};
-    ghost use Rattle.tiered.specs.Blocks.{whole, AreKept};
     ghost use Rattle.tiered.specs.Lists.{TieredList};
 
     ghost Value = { TieredList T };
 
-    ghost view = { λ a. record { items = whole a.blocks.items ++ a.last.items; ready = a.ready } };
+    ghost use Rattle.tiered.specs.Forms.{list_of, IsFormed};
 
-    ghost invariant = { λ a. AreKept a.blocks a.last a.spare a.count a.ready };
+    ghost view = { λ a. list_of a.form };
+
+    ghost invariant = { λ a. IsFormed a.form };
+}
+
+/// The items in a box, where more than 2,048 fit. They stay where they are if there is no memory.
+// Not in line, so that what puts an item into a short list has no room on the stack for this.
+#[inline(never)]
+fn boxed<T: Drop>(alloc: Global, items: &mut Vec<T>) -> Result<Box<Tiers<T>>, AllocError>
+    requires { length items.old.items ≤ 2048 }
+    ensures ok { IfOk result (λ all. all.value ≡ record { items = items.old.items; ready = false }) }
+    ensures err { OnErr result (items.new ≡ items.old) }
+{
+    // First the box, so that the items stay if there is no memory.
+    let mut all = Box::new(alloc, Tiers::new(alloc, Vec::new(alloc)))?;
+    *all = Tiers::new(alloc, mem::replace(items, Vec::new(alloc)));
+    Ok(all)
 }
 
 impl<T: Drop> Tiered<T> {
@@ -60,40 +77,46 @@ impl<T: Drop> Tiered<T> {
     pub fn new(alloc: Global) -> Tiered<T>
         ensures { result ≡ record { items = []; ready = false } }
     {
+        Tiered::few(alloc, Vec::new(alloc))
+    }
+
+    /// A list of these items, in the memory that they have.
+    fn few(alloc: Global, items: Vec<T>) -> Tiered<T>
+        requires { length items.items ≤ 2048 }
+        ensures { result ≡ record { items = items.items; ready = false } }
+    {
         Tiered {
             alloc,
-            blocks: Vec::new(alloc),
-            last: Vec::new(alloc),
-            spare: Vec::new(alloc),
-            count: 0,
-            ready: false,
+            form: Form::Few {
+                items,
+                ready: false,
+            },
         }
     }
 
+    /// A list in a box.
+    fn many(alloc: Global, all: Tiers<T>) -> Result<Tiered<T>, AllocError>
+        ensures { IfOk result (λ list. list ≡ all) }
+    {
+        let all = Box::new(alloc, all)?;
+        Ok(Tiered {
+            alloc,
+            form: Form::Many { all },
+        })
+    }
+
     /// So many times an item.
+    // Not in line: what a long list needs of the stack is free again at the end.
+    #[inline(never)]
     pub fn repeated(alloc: Global, item: T, count: usize) -> Result<Tiered<T>, AllocError>
     where
         T: Copy,
         ensures { IfOk result (λ list. list.items ≡ replicate count item) }
     {
-        if count > MOST_ITEMS {
-            return Err(AllocError);
+        if count <= MOST {
+            return Ok(Tiered::few(alloc, repeat(alloc, item, count, count)?));
         }
-        // The last items may fill a block, but aren't one yet.
-        let full = count.saturating_sub(1) / MOST;
-        let rest = count - full * MOST;
-        let room = if full == 0 { rest } else { MOST };
-        let mut blocks = repeat_blocks(alloc, item, full)?;
-        let mut last = repeat(alloc, item, rest, room)?;
-        close_end(alloc, &mut blocks, &mut last);
-        Ok(Tiered {
-            alloc,
-            blocks,
-            last,
-            spare: Vec::new(alloc),
-            count,
-            ready: false,
-        })
+        Tiered::many(alloc, Tiers::repeated(alloc, item, count)?)
     }
 
     /// An equal list.
@@ -102,31 +125,46 @@ impl<T: Drop> Tiered<T> {
         T: Copy,
         ensures { IfOk result (λ list. list.items ≡ self.now.items) }
     {
-        let blocks = copy_blocks(alloc, &self.blocks)?;
-        let last = Vec::from_slice(alloc, &self.last)?;
-        Ok(Tiered {
-            alloc,
-            blocks,
-            last,
-            spare: Vec::new(alloc),
-            count: self.count,
-            ready: false,
-        })
+        match &self.form {
+            Form::Few { items, ready: _ } => {
+                Ok(Tiered::few(alloc, Vec::from_slice(alloc, items)?))
+            }
+            Form::Many { all } => Tiered::copy_of(alloc, all),
+        }
+    }
+
+    /// A list equal to one in a box, and in none if it got short.
+    // Not in line, so that what copies a short list has no room on the stack for this.
+    #[inline(never)]
+    fn copy_of(alloc: Global, all: &Tiers<T>) -> Result<Tiered<T>, AllocError>
+    where
+        T: Copy,
+        ensures { IfOk result (λ list. list.items ≡ all.now.items) }
+    {
+        if let Some(items) = all.as_slice() {
+            return Ok(Tiered::few(alloc, Vec::from_slice(alloc, items)?));
+        }
+        Tiered::many(alloc, all.copy(alloc)?)
     }
 
     /// How many items there are.
+    #[inline]
     pub fn len(&self) -> usize
         ensures count { result ≡ length self.now.items }
         ensures small { result < 2 ^ 63 }
     {
-        self.count
+        match &self.form {
+            Form::Few { items, ready: _ } => items.len(),
+            Form::Many { all } => all.len(),
+        }
     }
 
     /// Whether there is no item.
+    #[inline]
     pub fn is_empty(&self) -> bool
         ensures { IsTrue result ↔ (self.now.items ≡ []) }
     {
-        self.count == 0
+        self.len() == 0
     }
 
     /// The item at a place: without a search, in some ten instructions.
@@ -135,21 +173,21 @@ impl<T: Drop> Tiered<T> {
         requires { place < length self.now.items }
         ensures { slice_get self.now.items place ≡ Some result.now }
     {
-        if self.blocks.is_empty() {
-            return &self.last[place];
+        match &self.form {
+            Form::Few { items, ready: _ } => &items[place],
+            Form::Many { all } => all.at(place),
         }
-        self.blocks[place / MOST].at(place % MOST)
     }
 
     /// All items side by side, if they lie so: up to 2,048 do.
+    #[inline]
     pub fn as_slice(&self) -> Option<&[T]>
         ensures same { IfSome result (λ items. items.now ≡ self.now.items) }
         ensures few { length self.now.items ≤ 2048 → IsSome result }
     {
-        if self.blocks.is_empty() {
-            Some(&self.last)
-        } else {
-            None
+        match &self.form {
+            Form::Few { items, ready: _ } => Some(items),
+            Form::Many { all } => all.as_slice(),
         }
     }
 
@@ -158,10 +196,9 @@ impl<T: Drop> Tiered<T> {
         requires { place < length self.old.items }
         ensures { self.new ≡ record { items = slice_set self.old.items place item; ready = self.old.ready } }
     {
-        if self.blocks.is_empty() {
-            self.last[place] = item;
-        } else {
-            self.blocks[place / MOST].set(place % MOST, item);
+        match &mut self.form {
+            Form::Few { items, ready: _ } => items[place] = item,
+            Form::Many { all } => all.set(place, item),
         }
     }
 
@@ -171,13 +208,21 @@ impl<T: Drop> Tiered<T> {
         ensures ready { OnOk result (IsTrue self.new.ready) }
         ensures err { OnErr result (self.new.ready ≡ false) }
     {
-        self.ready = false;
-        if self.count >= MOST_ITEMS {
-            return Err(AllocError);
+        match &mut self.form {
+            Form::Few { items, ready } => {
+                if items.len() < MOST {
+                    *ready = false;
+                    items.reserve(1)?;
+                    *ready = true;
+                    return Ok(());
+                }
+                let mut all = boxed(self.alloc, items)?;
+                let result = all.reserve();
+                self.form = Form::Many { all };
+                result
+            }
+            Form::Many { all } => all.reserve(),
         }
-        make_room(&mut self.blocks, &mut self.last, &mut self.spare)?;
-        self.ready = true;
-        Ok(())
     }
 
     /// Puts an item in at a place, for which room was made. Takes no memory.
@@ -186,16 +231,14 @@ impl<T: Drop> Tiered<T> {
         requires place { place ≤ length self.old.items }
         ensures { self.new ≡ record { items = insert self.old.items place item; ready = false } }
     {
-        self.ready = false;
-        open_for_insert(
-            self.alloc,
-            &mut self.blocks,
-            &mut self.last,
-            &mut self.spare,
-        );
-        insert_at(&mut self.blocks, &mut self.last, place, item);
-        close_end(self.alloc, &mut self.blocks, &mut self.last);
-        self.count += 1;
+        match &mut self.form {
+            Form::Few { items, ready } => {
+                *ready = false;
+                // There is room, so this can't fail.
+                let _ = items.insert(place, item);
+            }
+            Form::Many { all } => all.insert_reserved(place, item),
+        }
     }
 
     /// Puts an item in at the end. The items stay if there is no memory.
@@ -215,27 +258,30 @@ impl<T: Drop> Tiered<T> {
         ensures item { slice_get self.old.items place ≡ Some result }
         ensures items { self.new ≡ record { items = remove self.old.items place; ready = false } }
     {
-        self.ready = false;
-        open_for_remove(&mut self.blocks, &mut self.last);
-        let item = remove_at(&mut self.blocks, &mut self.last, place);
-        drop_empty(
-            self.alloc,
-            &mut self.blocks,
-            &mut self.last,
-            &mut self.spare,
-        );
-        close_end(self.alloc, &mut self.blocks, &mut self.last);
-        self.count -= 1;
-        item
+        match &mut self.form {
+            Form::Few { items, ready } => {
+                *ready = false;
+                items.remove(place)
+            }
+            Form::Many { all } => all.remove(place),
+        }
     }
 
     /// Leaves no item.
     pub fn clear(&mut self)
         ensures { self.new ≡ record { items = []; ready = false } }
     {
-        self.ready = false;
-        self.blocks.clear();
-        self.last.clear();
-        self.count = 0;
+        match &mut self.form {
+            Form::Few { items, ready } => {
+                *ready = false;
+                items.clear();
+            }
+            Form::Many { all: _ } => {
+                self.form = Form::Few {
+                    items: Vec::new(self.alloc),
+                    ready: false,
+                };
+            }
+        }
     }
 }

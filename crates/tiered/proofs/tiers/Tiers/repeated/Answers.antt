@@ -1,7 +1,7 @@
 use Rattle.std.proofs.Common.{◌≡◌, ◌+◌, ◌-◌, ◌*◌, ◌/◌, length, replicate, ap, ◌∙◌, arith}
 use Rattle.std.proofs.lemmas.List.{length-replicate}
 use Rattle.tiered.proofs.Places.{full-replicate, replicated}
-use Rattle.tiered.proofs.list.Tiered.repeated.Goals as goal
+use Rattle.tiered.proofs.tiers.Tiers.repeated.Goals as goal
 
 pub close_end-requires-clause-full : goal.close_end-requires-clause-full
 close_end-requires-clause-full g c =

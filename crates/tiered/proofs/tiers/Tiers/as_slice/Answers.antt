@@ -1,7 +1,7 @@
 use Rattle.std.proofs.Common.{◌≡◌, ◌<◌, ◌++◌, length, ap, arith}
 use Rattle.tiered.specs.Blocks.{whole}
 use Rattle.tiered.proofs.Places.{tiers_long}
-use Rattle.tiered.proofs.list.Tiered.as_slice.Goals as goal
+use Rattle.tiered.proofs.tiers.Tiers.as_slice.Goals as goal
 
 pub returns-else-is_empty-clause-few : goal.returns-else-is_empty-clause-few
 returns-else-is_empty-clause-few g c =

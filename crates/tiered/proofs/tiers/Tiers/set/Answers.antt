@@ -6,7 +6,7 @@ use Rattle.tiered.proofs.Keeping.{kept-set}
 use Rattle.tiered.proofs.Parts.{set_first}
 use Rattle.tiered.proofs.Places.{tiers_spot, tiers_only, same_list}
 use Rattle.tiered.proofs.Whole.{set_in}
-use Rattle.tiered.proofs.list.Tiered.set.Goals as goal
+use Rattle.tiered.proofs.tiers.Tiers.set.Goals as goal
 
 pub index_mut-requires-else-is_empty : goal.index_mut-requires-else-is_empty
 index_mut-requires-else-is_empty g c =

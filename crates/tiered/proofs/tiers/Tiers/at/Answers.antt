@@ -3,7 +3,7 @@ use Rattle.std.proofs.lemmas.List.{get_or_default}
 use Rattle.tiered.specs.Blocks.{whole, block_at}
 use Rattle.tiered.proofs.Places.{tiers_spot, tiers_only}
 use Rattle.tiered.proofs.Whole.{get_in}
-use Rattle.tiered.proofs.list.Tiered.at.Goals as goal
+use Rattle.tiered.proofs.tiers.Tiers.at.Goals as goal
 
 pub index-requires-2 : goal.index-requires-2
 index-requires-2 g c =
