@@ -1,10 +1,7 @@
 pub mod Apart
-pub mod Halving
 pub mod Keeping
 pub mod Kept
-pub mod Beginnings
 pub mod Copying
-pub mod Listing
 pub mod Mapping
 pub mod Rising
 pub mod Values

@@ -1,5 +1,5 @@
 -- Vectors as the lists that they hold.
-use Rattle.std.proofs.Common.{◌≡◌, ◌<◌, ◌≤◌, ◌++◌, ℕ, zero, suc, List, [], ◌∷◌, length, map, take, drop, sym, ap, ◌∙◌, subst, vec_capacity, arith, get_or}
+use Rattle.std.proofs.Common.{◌≡◌, ◌<◌, ◌≤◌, ◌++◌, ℕ, suc, List, [], ◌∷◌, length, map, take, drop, sym, ap, ◌∙◌, subst, vec_capacity, arith, get_or}
 use Rattle.std.specs.Global.{Vec}
 use Rattle.std.specs.List.{All, insert, remove}
 use Rattle.std.proofs.lemmas.List.{get_or-map, map-append, take-map, drop-map, length-map}
@@ -27,12 +27,6 @@ room_read chunks i c inside read = get_or-map (λ v. vec_capacity v) chunks i c 
 
 pub count : {T : Type 0} (chunks : List (Vec T)) → length (lists chunks) ≡ length chunks
 count chunks = length-map chunks (λ v. v.items)
-
--- a vector has room for its own items
-pub room_for : {T : Type 0} (chunks : List (Vec T)) (i : ℕ) → i < length chunks → length (chunk_at (lists chunks) i) ≤ room_at chunks i
-room_for [] i inside = absurd (omega arith)
-room_for (v ∷ chunks) zero inside = omega (arith, v.ok.0, v.ok.1)
-room_for (v ∷ chunks) (suc i) inside = room_for chunks i (omega arith)
 
 pub room_wide : {T : Type 0} (n : ℕ) (chunks : List (Vec T)) (i : ℕ) → i < length chunks → AreWide n chunks → n ≤ room_at chunks i
 room_wide n [] i inside wide = absurd (omega arith)

@@ -7,7 +7,13 @@ ghost use Rattle.chunked.specs.Maps.{value_at};
 
 use crate::chunks::Chunks;
 use crate::settling::Shape;
-use crate::starts::Spot;
+
+/// A place in a chunk.
+#[derive(Clone, Copy)]
+pub(crate) struct Spot {
+    pub(crate) chunk: usize,
+    pub(crate) offset: usize,
+}
 
 /// The last chunk whose first key is at most a key, or else the first chunk. Looks at no chunk.
 fn chunk_of_key(firsts: &[u64], key: u64) -> usize

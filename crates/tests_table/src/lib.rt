@@ -1,4 +1,4 @@
-//! Tests of the table and of two-phase commit by their public calls: lists in chunks, capabilities, the replica, messages, both roles.
+//! Tests of the table and of two-phase commit by their public calls: lists and maps, capabilities, the replica, messages, both roles.
 #![tactic(auto)]
 
 #[cfg(test)]
@@ -6,13 +6,13 @@ mod asks;
 #[cfg(test)]
 mod capabilities;
 #[cfg(test)]
-mod chunks;
-#[cfg(test)]
 mod commit;
 #[cfg(test)]
 mod cores;
 #[cfg(test)]
 mod facts;
+#[cfg(test)]
+mod lists;
 #[cfg(test)]
 mod many;
 #[cfg(test)]

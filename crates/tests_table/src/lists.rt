@@ -1,10 +1,11 @@
-//! Edits of lists and maps in chunks beside those of std's, and what no clause says.
+//! Edits of lists and maps beside those of std's, and what no clause says.
 
 ghost use Rattle.std.specs.Prelude.{◌<◌};
 
-use chunked::{Chunked, Sorted};
+use chunked::Sorted;
 use std::collections::BTreeMap;
 use std::test::Fail;
+use tiered::Tiered;
 
 /// The next number of a sequence without a pattern.
 fn next(seed: u64) -> u64 {
@@ -23,52 +24,69 @@ fn below(seed: u64, count: usize) -> usize
 fn is_send<T: Send>(_value: &T) {}
 
 #[test]
-fn rising_places_fill_their_chunks(rt: HostRuntime) -> Result<(), Fail> {
-    let mut list = Chunked::new(rt.alloc());
+fn short_lists_lie_side_by_side(rt: HostRuntime) -> Result<(), Fail> {
+    let mut list = Tiered::new(rt.alloc());
     is_send(&list);
-    for number in 0..300u32 {
-        let place = list.len();
-        list.reserve()?;
-        list.insert_reserved(place, number);
-    }
-    assert_eq!(rt; list.len(), 300);
-    assert_eq!(rt; list.chunk_count(), 3);
-    assert_eq!(rt; *list.at(128), 128);
-    for number in [0, 1, 128, 129, 200, 300] {
-        assert_eq!(rt;
-            list.partition_point(|item| *item < number),
-            number as usize
-        );
-    }
-    list.set(128, 7);
-    assert_eq!(rt; list.remove(127), 127);
-    assert_eq!(rt; list.len(), 299);
-    assert_eq!(rt; list.iter_from(126).next(), Some(&126));
-    assert_eq!(rt; *list.at(127), 7);
-    for _ in 0..299u32 {
-        assert!(rt; !list.is_empty());
-        list.remove(0);
-    }
     assert!(rt; list.is_empty());
-    assert_eq!(rt; list.chunk_count(), 0);
-    assert!(rt; !list.is_ready());
+    for number in 0..2048u32 {
+        list.push(number)?;
+    }
+    assert_eq!(rt; list.as_slice().map(|items| items.len()), Some(2048));
     list.reserve()?;
-    assert!(rt; list.is_ready());
-    list.forget();
-    assert!(rt; !list.is_ready());
+    assert_eq!(rt; list.as_slice().map(|items| items.len()), Some(2048));
+    list.insert_reserved(0, 9);
+    assert!(rt; list.as_slice().is_none());
+    assert_eq!(rt; list.len(), 2049);
+    assert_eq!(rt; *list.at(0), 9);
+    assert_eq!(rt; *list.at(2048), 2047);
+    list.set(2048, 7);
+    assert_eq!(rt; list.remove(2048), 7);
+    assert_eq!(rt; list.len(), 2048);
+    assert_eq!(rt; list.as_slice().map(|items| items.len()), Some(2048));
+    list.set(1, 5);
+    assert_eq!(rt; *list.at(1), 5);
+    list.clear();
+    assert!(rt; list.is_empty());
+    list.push(3)?;
+    assert_eq!(rt; list.as_slice(), Some([3u32].as_slice()));
+    list.clear();
+    assert_eq!(rt; list.len(), 0);
+    Ok(())
+}
+
+#[test]
+fn copies_stand_alone(rt: HostRuntime) -> Result<(), Fail> {
+    for count in [0usize, 1, 2048, 2049, 4096, 5000] {
+        let list = Tiered::repeated(rt.alloc(), 7u32, count)?;
+        assert_eq!(rt; list.len(), count);
+        assert_eq!(rt; list.as_slice().is_some(), count <= 2048);
+        let mut other = list.copy(rt.alloc())?;
+        other.push(8)?;
+        assert_eq!(rt; other.len(), count + 1);
+        assert_eq!(rt; *other.at(count), 8);
+        assert_eq!(rt; list.len(), count);
+    }
+    let mut long = Tiered::repeated(rt.alloc(), 7u32, 2049)?;
+    assert_eq!(rt; long.len(), 2049);
+    long.set(2048, 6);
+    long.remove(0);
+    let short = long.copy(rt.alloc())?;
+    assert_eq!(rt; short.len(), 2048);
+    assert_eq!(rt; short.as_slice(), long.as_slice());
+    assert_eq!(rt; *short.at(2047), 6);
     Ok(())
 }
 
 #[test]
 fn edits_at_random_are_those_of_a_vector(rt: HostRuntime) -> Result<(), Fail> {
-    let mut list = Chunked::new(rt.alloc());
+    let mut list = Tiered::new(rt.alloc());
     let mut plain = Vec::new(rt.alloc());
     let mut seed = 1;
-    for step in 0..8000u64 {
+    for step in 0..20_000u64 {
         seed = next(seed);
         let count = list.len();
         assert_eq!(rt; plain.len(), count);
-        let grows = if step % 4000 < 2000 { 9 } else { 3 };
+        let grows = if step % 10_000 < 5000 { 15 } else { 3 };
         if count == 0 || seed >> 60 < grows {
             let place = below(seed, count + 1);
             list.reserve()?;
@@ -79,10 +97,10 @@ fn edits_at_random_are_those_of_a_vector(rt: HostRuntime) -> Result<(), Fail> {
             assert_eq!(rt; list.at(place), &plain[place]);
             assert_eq!(rt; list.remove(place), plain.remove(place));
         }
-        assert!(rt; list.chunk_count() <= list.len() / 32 + 1);
         if step % 1000 == 0 {
-            for (item, other) in list.iter().zip(plain.iter()) {
-                assert_eq!(rt; item, other);
+            assert_eq!(rt; plain.len(), list.len());
+            for place in 0..list.len() {
+                assert_eq!(rt; list.at(place), &plain[place]);
             }
         }
     }
