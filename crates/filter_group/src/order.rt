@@ -14,9 +14,14 @@ use tiered::Tiered;
 /// So many programs before and after one are looked at for one of its shape.
 const NEAREST: usize = 8;
 
+/// Of so many parts a short list of programs asks each where a program comes, and a long one of so many.
+const FEW_PARTS_OF_SHORT: usize = 2;
+
+const FEW_PARTS: usize = 16;
+
 /// How two programs are ordered: by the first instructions that differ in more than programs of one shape do, then by length, then by
 /// the first constants that differ.
-fn program_order(a: &[Insn], b: &[Insn]) -> Ordering
+pub(crate) fn program_order(a: &[Insn], b: &[Insn]) -> Ordering
     ensures { result ≡ program_cmp a.now b.now }
 {
     let mut constants = Ordering::Equal;
@@ -35,14 +40,40 @@ fn program_order(a: &[Insn], b: &[Insn]) -> Ordering
 }
 
 /// How many of the ordered programs come before one.
+// To compare programs takes long, since each lies somewhere else. So the search begins at a guess, which mostly is right, where that takes
+// less than to halve the list: few parts are asked then.
 pub(crate) fn rank_of(placed: &Placements, order: &Tiered<u32>, program: &[Insn]) -> usize
+    requires { IsOrder placed.now order.now.items }
+    ensures { IsRank placed.now order.now.items program.now result }
+{
+    let few = if order.as_slice().is_some() {
+        FEW_PARTS_OF_SHORT
+    } else {
+        FEW_PARTS
+    };
+    match placed.guess(program, few) {
+        Some(guess) => rank_from(placed, order, program, guess, 1),
+        None => rank_from(placed, order, program, order.len() / 2, order.len()),
+    }
+}
+
+/// The same, by a search that begins at a guess. From there it goes on so far, then twice as far each time, until halves are less.
+fn rank_from(
+    placed: &Placements,
+    order: &Tiered<u32>,
+    program: &[Insn],
+    guess: usize,
+    stride: usize,
+) -> usize
     requires { IsOrder placed.now order.now.items }
     ensures { IsRank placed.now order.now.items program.now result }
 {
     let mut low = 0;
     let mut high = order.len();
+    let mut far = stride;
     while low < high {
-        let middle = low + (high - low) / 2;
+        let middle = probe(low, high, guess, far);
+        far = far.saturating_mul(2);
         let place = *order.at(middle) as usize;
         let other = placed.at(place).verified().code();
         if program_order(other, program).is_lt() {
@@ -52,6 +83,22 @@ pub(crate) fn rank_of(placed: &Placements, order: &Tiered<u32>, program: &[Insn]
         }
     }
     low
+}
+
+/// Where a search looks next: at its guess, or so far from what it has ruled out towards there, but no farther than half of what is left.
+fn probe(low: usize, high: usize, guess: usize, far: usize) -> usize
+    requires { low < high }
+    ensures low { low ≤ result }
+    ensures high { result < high }
+{
+    let half = low + (high - low) / 2;
+    if guess < low {
+        half.min(low.saturating_add(far))
+    } else if guess < high {
+        guess
+    } else {
+        half.max((high - 1).saturating_sub(far))
+    }
 }
 
 /// The places of two programs of one's shape that are nearest to it in the order, as far as there are any.

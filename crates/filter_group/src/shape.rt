@@ -10,6 +10,9 @@ use bpf_insn::{Form, Insn};
 use filter_verify::Verified;
 use std::cmp::Ordering;
 
+/// Programs that differ at more places share no group: each place has a column of constants, which takes more memory than two programs do.
+pub(crate) const MOST_COLUMNS: usize = 64;
+
 /// The constant of an instruction of this form, as far as programs of one shape have it alike. What a jump compares with may differ,
 /// and so may a verdict above 0. So where they stand at one point they load the same, and where one returns 0 all do.
 fn alike_in(form: Option<Form>, constant: u32) -> u32
@@ -48,14 +51,35 @@ pub(crate) fn is_alike(a: Insn, b: Insn) -> bool
     a.code == b.code && a.jt == b.jt && a.jf == b.jf && constant_of(a) == constant_of(b)
 }
 
+/// The same, for what most are that are compared: one instruction.
+fn are_same_or_alike(a: Insn, b: Insn) -> bool
+    ensures { IsTrue result → (a.code ≡ b.code) × (a.jt ≡ b.jt) × (a.jf ≡ b.jf) }
+{
+    a == b || is_alike(a, b)
+}
+
 /// Whether two programs are of one shape: they load the same and end with verdict 0 at the same places, differ at most in what they
-/// compare with and in their verdicts, and ask for one kind of packet.
+/// compare with and in their verdicts, not at too many places, and ask for one kind of packet.
 pub(crate) fn are_one_shape(a: &Verified, b: &Verified) -> bool
     ensures { IsTrue result → AreOneShape a.now b.now }
 {
     let code = a.code();
     let other = b.code();
-    are_alike(code, other) && !differ_in_kind(code, other)
+    are_alike(code, other) && !differ_in_many(code, other) && !differ_in_kind(code, other)
+}
+
+/// Whether two programs differ at more places than a group has columns for.
+fn differ_in_many(code: &[Insn], other: &[Insn]) -> bool {
+    let mut left = MOST_COLUMNS;
+    for place in 0..code.len().min(other.len()) {
+        if code[place] != other[place] {
+            if left == 0 {
+                return true;
+            }
+            left -= 1;
+        }
+    }
+    false
 }
 
 /// Whether the instructions of two programs differ at most in what may differ in programs of one shape.
@@ -66,7 +90,7 @@ fn are_alike(code: &[Insn], other: &[Insn]) -> bool
         return false;
     }
     for place in 0..code.len() {
-        if !is_alike(code[place], other[place]) {
+        if !are_same_or_alike(code[place], other[place]) {
             return false;
         }
     }

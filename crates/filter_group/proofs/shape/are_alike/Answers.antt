@@ -30,7 +30,7 @@ loop-place-preserved c =
     let low : place < length p = let test = c.loop-place-test.true in let end = c.loop-place.auto.place-end in omega arith in
     let as_long : length p ≡ length q = c.if-code-other.false in
     more p q place (get_or p place no_insn) (get_or q place no_insn) (slice_get-get_or p place no_insn low) (slice_get-get_or q place no_insn (omega arith))
-    (c.is_alike.ensures.fields c.if-not-is_alike.false) c.loop-place.invariant
+    (c.are_same_or_alike.ensures c.if-not-are_same_or_alike.false) c.loop-place.invariant
 
 pub returns : goal.returns
 returns c = λ _.

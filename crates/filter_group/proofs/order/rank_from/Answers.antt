@@ -1,7 +1,7 @@
 use Rattle.std.proofs.Common.{◌≡◌, ◌∙◌, ◌+◌, ◌-◌, ◌/◌, arith, ap, ℕ, true, false, is_lt, Some, slice_get, sym}
 use Rattle.filter_group.specs.Order.{program_cmp}
 use Rattle.filter_group.proofs.Sorting.{between_earlier, between_later}
-use Rattle.filter_group.proofs.order.rank_of.Goals as goal
+use Rattle.filter_group.proofs.order.rank_from.Goals as goal
 
 pub loop-low-preserved-then-is_lt : goal.loop-low-preserved-then-is_lt
 loop-low-preserved-then-is_lt c =
@@ -9,7 +9,9 @@ loop-low-preserved-then-is_lt c =
     let b = c.loop-low.invariant in
     let within = b.within in
     let met = c.loop-low-test.true in
-    let middle : ℕ = c.loop-low.low + (c.loop-low.high - c.loop-low.low) / 2 in
+    let middle : ℕ = c.probe-middle.result in
+    let from = c.probe-middle.ensures.low in
+    let to = c.probe-middle.ensures.high in
     let there : slice_get placed c.at.result.now ≡ Some c.code-other.result.now = c.at-in-loop-low.ensures ∙ ap Some (sym (c.code-other.ensures.code ∙ c.verified.ensures)) in
     let less : is_lt (program_cmp c.code-other.result.now c.args.program.now) ≡ true = ap is_lt (sym c.program_order.ensures) ∙ (sym c.is_lt.ensures ∙ c.if-is_lt.true) in
     between_later placed c.args.order.now.items c.args.program.now c.loop-low.low c.loop-low.high middle c.at.result.now c.code-other.result.now c.requires b (omega arith) (omega arith) c.at.ensures there less
@@ -20,7 +22,9 @@ loop-low-preserved c =
     let b = c.loop-low.invariant in
     let within = b.within in
     let met = c.loop-low-test.true in
-    let middle : ℕ = c.loop-low.low + (c.loop-low.high - c.loop-low.low) / 2 in
+    let middle : ℕ = c.probe-middle.result in
+    let from = c.probe-middle.ensures.low in
+    let to = c.probe-middle.ensures.high in
     let there : slice_get placed c.at.result.now ≡ Some c.code-other.result.now = c.at-in-loop-low.ensures ∙ ap Some (sym (c.code-other.ensures.code ∙ c.verified.ensures)) in
     let less : is_lt (program_cmp c.code-other.result.now c.args.program.now) ≡ false = ap is_lt (sym c.program_order.ensures) ∙ (sym c.is_lt.ensures ∙ c.if-is_lt.false) in
     between_earlier placed c.args.order.now.items c.args.program.now c.loop-low.low c.loop-low.high middle c.at.result.now c.code-other.result.now c.requires b (omega arith) (omega arith) c.at.ensures there less
