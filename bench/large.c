@@ -3,8 +3,9 @@
  *
  *     large FILTERS SHAPE ORDER      SHAPE: port, host, tuple or ten; ORDER: random, rising, falling or alternating
  *
- * Filters number 0, 1, ..: of `port` udp dst port N, of `host` udp and a destination host and port, of `tuple` a TCP 5-tuple, of `ten` ten
- * shapes by turns. They are put in in this order of their numbers. A packet that nobody takes has a host between those of two filters, or
+ * Of `port` the filters are udp dst port N, of `host` udp and one of 4,096 destination hosts and a port, of `tuple` TCP connections of
+ * clients anywhere with four servers, of `ten` ten shapes by turns. Numbers stand for them, which are put in in this order; those that
+ * changes bring lie anywhere among them. A packet that nobody takes has a host above those of all filters, or between those of two, or
  * port 0. */
 #include <stdint.h>
 #include <stdio.h>
@@ -18,6 +19,7 @@ enum { DOMAIN = 1, ENDPOINT = 7, MOST = 65536, LENGTH = 128, FLOWS = 16, ROUNDS 
 enum { TCP = 6, UDP = 17, ICMP = 1 };
 
 static mkdemux_core core = {NULL};
+static uint32_t numbers[MOST]; /* of the filters, and then of those that changes bring */
 
 static double now(clockid_t clock)
 {
@@ -99,15 +101,33 @@ static void put16(uint8_t *at, uint32_t value)
     at[0] = (uint8_t)(value >> 8), at[1] = (uint8_t)value;
 }
 
-/* The filter of a number, and a packet that it takes. `gap` is 1 for a packet that no filter takes. */
-static void make(const char *shape, uint32_t number, int gap, struct code *code, uint8_t *packet)
+/* A number that looks drawn at random, always the same for one number. */
+static uint64_t mixed(uint64_t number)
 {
+    number += 0x9e3779b97f4a7c15u;
+    number = (number ^ number >> 30) * 0xbf58476d1ce4e5b9u;
+    number = (number ^ number >> 27) * 0x94d049bb133111ebu;
+    return number ^ number >> 31;
+}
+
+enum gap { TAKEN, BETWEEN, ABOVE };
+
+/* A host that filters name, or one that none does. */
+static uint32_t host_of(uint32_t number, enum gap gap)
+{
+    return 0x0a000000 + 2 * number + (gap == BETWEEN) + (gap == ABOVE ? 0x40000000 : 0);
+}
+
+/* The filter of a number, and a packet that it takes, or that no filter does. */
+static void make(const char *shape, uint32_t number, enum gap gap, struct code *code, uint8_t *packet)
+{
+    uint64_t drawn = mixed(number);
     memset(packet, 0, LENGTH);
     put16(packet + 12, 0x800);
     packet[14] = 0x45;
     int kind = !strcmp(shape, "port") ? 0 : !strcmp(shape, "host") ? 10 : !strcmp(shape, "tuple") ? 11 : (int)(number % 10);
     uint32_t name = !strcmp(shape, "ten") ? number / 10 : number;
-    uint32_t host = 0x0a000000 + 2 * name + (uint32_t)gap, port = gap ? 0 : name % 65535 + 1;
+    uint32_t host = host_of(name, gap), port = gap ? 0 : name % 65535 + 1, server;
     uint32_t protocol = kind == 9 ? ICMP : kind == 2 || kind == 3 || kind == 6 || kind == 7 || kind == 11 ? TCP : UDP;
     packet[23] = (uint8_t)protocol;
     begun(code, protocol);
@@ -123,22 +143,25 @@ static void make(const char *shape, uint32_t number, int gap, struct code *code,
         put16(packet + 12, 0x806);
         break;
     case 10:
-        test(code, WORD, 30, 0x0a000000 + 2 * (name / 16) + (uint32_t)gap);
-        put32(packet + 30, 0x0a000000 + 2 * (name / 16) + (uint32_t)gap);
+        host = host_of((uint32_t)(drawn % 4096), gap), port = 1024 + (uint32_t)(drawn >> 24) % 60000;
+        test(code, WORD, 30, host);
+        put32(packet + 30, host);
         ports(code);
-        test(code, PORT, 16, 1000 + name % 16);
-        put16(packet + 36, 1000 + name % 16);
+        test(code, PORT, 16, port);
+        put16(packet + 36, port);
         break;
     default:
-        test(code, WORD, 26, 0x0a000000 + name % 256);
-        put32(packet + 26, 0x0a000000 + name % 256);
-        test(code, WORD, 30, 0x0b000000 + 2 * (name / 4096) + (uint32_t)gap);
-        put32(packet + 30, 0x0b000000 + 2 * (name / 4096) + (uint32_t)gap);
+        host = host_of((uint32_t)(drawn & 0xffffff), gap), port = 1024 + (uint32_t)(drawn >> 24) % 60000;
+        server = 0xc0a80001 + (uint32_t)(drawn >> 44) % 4;
+        test(code, WORD, 26, host);
+        put32(packet + 26, host);
+        test(code, WORD, 30, server);
+        put32(packet + 30, server);
         ports(code);
-        test(code, PORT, 14, 1024 + name % 61);
-        put16(packet + 34, 1024 + name % 61);
-        test(code, PORT, 16, name / 256 % 16);
-        put16(packet + 36, name / 256 % 16);
+        test(code, PORT, 14, port);
+        put16(packet + 34, port);
+        test(code, PORT, 16, 443);
+        put16(packet + 36, 443);
         break;
     }
     ended(code);
@@ -191,9 +214,8 @@ static void changes(const char *shape, uint32_t filters)
     for (int i = 0; i < CHANGES; i++) {
         struct code one, other;
         uint8_t packet[LENGTH];
-        /* (numbers that no filter has) */
-        make(shape, filters + draw(MOST - filters), 0, &one, packet);
-        make(shape, filters + draw(MOST - filters), 0, &other, packet);
+        make(shape, numbers[filters + draw(MOST - filters)], TAKEN, &one, packet);
+        make(shape, numbers[filters + draw(MOST - filters)], TAKEN, &other, packet);
         double begin = now(CLOCK_THREAD_CPUTIME_ID), end;
         uint32_t id = install(&one);
         put_in[i] = (end = now(CLOCK_THREAD_CPUTIME_ID)) - begin;
@@ -231,30 +253,29 @@ static double packet_time(uint64_t *received)
 }
 
 /* Packets for filters: none, some flows, any. */
-static void receive(const char *shape, uint32_t filters, uint32_t flows, int gap, const char *what)
+static void receive(const char *shape, uint32_t filters, uint32_t flows, enum gap gap, const char *what)
 {
     struct code code;
     uint64_t received = 0;
     uint32_t first = draw(filters);
     for (int i = 0; i < PACKETS; i++) {
         uint32_t flow = draw(flows);
-        make(shape, flows < filters ? (first + flow * (filters / flows)) % filters : flow, gap, &code, packets[i]);
+        make(shape, numbers[flows < filters ? (first + flow * (filters / flows)) % filters : flow], gap, &code, packets[i]);
     }
     double time = packet_time(&received);
-    if ((received == 0) != gap) fail("packets reach whom they shouldn't");
+    if ((received == 0) != (gap != TAKEN)) fail("packets reach whom they shouldn't");
     printf("; %s %.0f ns", what, time);
 }
 
 int main(int argc, char **argv)
 {
-    static uint32_t numbers[MOST];
     if (argc != 4 || atoi(argv[1]) < 1 || atoi(argv[1]) > MOST - 16) fail("usage: large FILTERS port|host|tuple|ten random|rising|falling|alternating");
     uint32_t filters = (uint32_t)atoi(argv[1]), budget = 0x7fffffff;
     struct mkdemux_limits limits = {MOST, MOST, 0, 0, 0};
     if (mkdemux_boot_limits(&limits, &budget, 1, &core) != MKDEMUX_CORE_OK) fail("no machine");
     decided(mkdemux_ask_create(&core, DOMAIN, ENDPOINT));
-    for (uint32_t at = 0; at < filters; at++) numbers[at] = number_at(argv[3], at, filters);
-    for (uint32_t at = filters; at-- > 1 && !strcmp(argv[3], "random");) {
+    for (uint32_t at = 0; at < MOST; at++) numbers[at] = at < filters ? number_at(argv[3], at, filters) : at;
+    for (uint32_t at = MOST; at-- > 1 && !strcmp(argv[3], "random");) {
         uint32_t other = draw(at + 1), number = numbers[at];
         numbers[at] = numbers[other];
         numbers[other] = number;
@@ -263,16 +284,17 @@ int main(int argc, char **argv)
     for (uint32_t at = 0; at < filters; at++) {
         struct code code;
         uint8_t packet[LENGTH];
-        make(argv[2], numbers[at], 0, &code, packet);
+        make(argv[2], numbers[at], TAKEN, &code, packet);
         install(&code);
         double end = now(CLOCK_THREAD_CPUTIME_ID);
         if (end - last > longest) longest = end - last;
         last = end;
     }
     printf("%u %s %s: filled in %.2f us each, longest %.0f us", (unsigned)filters, argv[2], argv[3], (last - begin) / 1e3 / filters, longest / 1e3);
-    receive(argv[2], filters, filters, 1, "nobody");
-    receive(argv[2], filters, filters < FLOWS ? filters : FLOWS, 0, "16 flows");
-    receive(argv[2], filters, filters, 0, "any");
+    receive(argv[2], filters, filters, ABOVE, "nobody");
+    receive(argv[2], filters, filters, BETWEEN, "between");
+    receive(argv[2], filters, filters < FLOWS ? filters : FLOWS, TAKEN, "16 flows");
+    receive(argv[2], filters, filters, TAKEN, "any");
     changes(argv[2], filters);
     printf("\n");
     mkdemux_close(&core);

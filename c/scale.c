@@ -1,5 +1,5 @@
-/* A machine of a server's size: 65,536 capabilities and filters on one core, and 64 cores that make changes. The argument is how many
- * filters, 1 to 65,536. What was measured is on standard output; a line on standard error for each check that failed. */
+/* A machine of a server's size: 65,536 capabilities and filters on one core, 64 cores that make changes, and long programs that differ
+ * everywhere. The argument is how many filters, 1 to 65,536. What was measured is on standard output; a line on standard error for each check that failed. */
 #include <malloc.h>
 #include <stdio.h>
 #include <stdlib.h>
@@ -8,6 +8,7 @@
 #include "mkdemux_cores.h"
 
 enum { CORES = MKDEMUX_CORE_MOST_CORES_WITH_LIMITS, LISTED = MKDEMUX_CORE_MOST_LISTED, CHANGES = 100, MOST_BOOT_BYTES = 7500000 };
+enum { PROGRAMS = 200, INSNS = MKDEMUX_CORE_MOST_INSNS };
 
 static int failures;
 
@@ -169,12 +170,44 @@ static void changes(void)
     CHECK(bytes == 0);
 }
 
+/* ---- Programs of 4,096 instructions, all of whose constants differ ---- */
+
+/* Half of the instructions are tests, or all, each of a constant that no other has. */
+static void differ(int loads)
+{
+    static struct mkdemux_insn code[INSNS];
+    uint32_t budget = 0xffffffff, i, j, constant = 0;
+    mkdemux_core core = {NULL};
+    size_t before;
+    double most = 2.5 * PROGRAMS * sizeof code;
+    CHECK(mkdemux_boot(&budget, 1, &core) == MKDEMUX_CORE_OK);
+    CHECK(change(&core, mkdemux_ask_create(&core, 1, 1)).made == 1);
+    before = bytes;
+    for (i = 0; i < PROGRAMS; i++) {
+        for (j = 0; j < INSNS - 1; j++) {
+            static const struct mkdemux_insn load = {0x20, 0, 0, 0}, test = {0x15, 0, 0, 0};
+            code[j] = loads && j % 2 == 0 ? load : test;
+            if (code[j].code == test.code)
+                code[j].k = constant++;
+        }
+        code[INSNS - 1].code = 0x06;
+        code[INSNS - 1].k = 64;
+        CHECK(change(&core, mkdemux_ask_install(&core, 1, 1, code, INSNS)).made == i + 1);
+    }
+    printf("%d programs of %d instructions: %.2f bytes a byte of code\n", PROGRAMS, INSNS, (double)(bytes - before) / PROGRAMS / sizeof code);
+    CHECK((double)(bytes - before) <= most);
+    mkdemux_close(&core);
+    CHECK(bytes == 0);
+}
+
 int main(int count, char **words)
 {
     unsigned long filters = count > 1 ? strtoul(words[1], NULL, 10) : LISTED;
     if (filters < 1 || filters > LISTED)
         return 2;
     changes();
+    differ(0);
+    differ(1);
     fills((uint32_t)filters);
     return failures ? 1 : 0;
 }
