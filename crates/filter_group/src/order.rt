@@ -14,7 +14,10 @@ use tiered::Tiered;
 /// So many programs before and after one are looked at for one of its shape.
 const NEAREST: usize = 8;
 
-/// Of so many parts a short list of programs asks each where a program comes, and a long one of so many.
+/// So few programs are compared in less time than their parts are asked.
+const FEW_PROGRAMS: usize = 64;
+
+/// So many parts of a list of programs that lie side by side are asked where a program comes, and so many of a longer one.
 const FEW_PARTS_OF_SHORT: usize = 2;
 
 const FEW_PARTS: usize = 16;
@@ -39,19 +42,25 @@ pub(crate) fn program_order(a: &[Insn], b: &[Insn]) -> Ordering
     a.len().cmp(&b.len()).then(constants)
 }
 
+/// How many parts of a list of programs are worth asking where a program comes, if there are no more.
+// Where there are many programs, each lies somewhere else, and to compare one takes longer.
+fn parts_to_ask(order: &Tiered<u32>) -> usize {
+    if order.len() <= FEW_PROGRAMS {
+        0
+    } else if order.as_slice().is_some() {
+        FEW_PARTS_OF_SHORT
+    } else {
+        FEW_PARTS
+    }
+}
+
 /// How many of the ordered programs come before one.
-// To compare programs takes long, since each lies somewhere else. So the search begins at a guess, which mostly is right, where that takes
-// less than to halve the list: few parts are asked then.
+// The search begins at a guess, which mostly is right, or else in the middle.
 pub(crate) fn rank_of(placed: &Placements, order: &Tiered<u32>, program: &[Insn]) -> usize
     requires { IsOrder placed.now order.now.items }
     ensures { IsRank placed.now order.now.items program.now result }
 {
-    let few = if order.as_slice().is_some() {
-        FEW_PARTS_OF_SHORT
-    } else {
-        FEW_PARTS
-    };
-    match placed.guess(program, few) {
+    match placed.guess(program, parts_to_ask(order)) {
         Some(guess) => rank_from(placed, order, program, guess, 1),
         None => rank_from(placed, order, program, order.len() / 2, order.len()),
     }

@@ -58,6 +58,15 @@ impl<T> Model for Tiered<T> {
     ghost invariant = { λ a. IsFormed a.form };
 }
 
+/// A long list without items, in its box.
+// Not in line, so that the stack has the list no longer than this.
+#[inline(never)]
+fn empty_box<T: Drop>(alloc: Global) -> Result<Box<Tiers<T>>, AllocError>
+    ensures { IfOk result (λ all. all.value ≡ record { items = []; ready = false }) }
+{
+    Ok(Box::new(alloc, Tiers::new(alloc, Vec::new(alloc)))?)
+}
+
 /// The items in a box, where more than 2,048 fit. They stay where they are if there is no memory.
 // Not in line, so that what puts an item into a short list has no room on the stack for this.
 #[inline(never)]
@@ -67,7 +76,7 @@ fn boxed<T: Drop>(alloc: Global, items: &mut Vec<T>) -> Result<Box<Tiers<T>>, Al
     ensures err { OnErr result (items.new ≡ items.old) }
 {
     // First the box, so that the items stay if there is no memory.
-    let mut all = Box::new(alloc, Tiers::new(alloc, Vec::new(alloc)))?;
+    let mut all = empty_box(alloc)?;
     *all = Tiers::new(alloc, mem::replace(items, Vec::new(alloc)));
     Ok(all)
 }
@@ -94,17 +103,6 @@ impl<T: Drop> Tiered<T> {
         }
     }
 
-    /// A list in a box.
-    fn many(alloc: Global, all: Tiers<T>) -> Result<Tiered<T>, AllocError>
-        ensures { IfOk result (λ list. list ≡ all) }
-    {
-        let all = Box::new(alloc, all)?;
-        Ok(Tiered {
-            alloc,
-            form: Form::Many { all },
-        })
-    }
-
     /// So many times an item.
     // Not in line: what a long list needs of the stack is free again at the end.
     #[inline(never)]
@@ -116,7 +114,12 @@ impl<T: Drop> Tiered<T> {
         if count <= MOST {
             return Ok(Tiered::few(alloc, repeat(alloc, item, count, count)?));
         }
-        Tiered::many(alloc, Tiers::repeated(alloc, item, count)?)
+        let mut all = empty_box(alloc)?;
+        all.fill(item, count)?;
+        Ok(Tiered {
+            alloc,
+            form: Form::Many { all },
+        })
     }
 
     /// An equal list.
@@ -144,7 +147,12 @@ impl<T: Drop> Tiered<T> {
         if let Some(items) = all.as_slice() {
             return Ok(Tiered::few(alloc, Vec::from_slice(alloc, items)?));
         }
-        Tiered::many(alloc, all.copy(alloc)?)
+        let mut copied = empty_box(alloc)?;
+        copied.copy_from(all)?;
+        Ok(Tiered {
+            alloc,
+            form: Form::Many { all: copied },
+        })
     }
 
     /// How many items there are.

@@ -70,11 +70,14 @@ impl<T: Drop> Tiers<T> {
         }
     }
 
-    /// So many times an item.
-    pub(crate) fn repeated(alloc: Global, item: T, count: usize) -> Result<Tiers<T>, AllocError>
+    /// Gives a list without items so many times an item. Without memory it stays as it is.
+    // Filled where it lies, so that the stack has no list while its parts are made.
+    #[inline(never)]
+    pub(crate) fn fill(&mut self, item: T, count: usize) -> Result<(), AllocError>
     where
         T: Copy,
-        ensures { IfOk result (λ list. list.items ≡ replicate count item) }
+        requires { self.old.items ≡ [] }
+        ensures { OnOk result (self.new.items ≡ replicate count item) }
     {
         if count > MOST_ITEMS {
             return Err(AllocError);
@@ -83,35 +86,31 @@ impl<T: Drop> Tiers<T> {
         let full = count.saturating_sub(1) / MOST;
         let rest = count - full * MOST;
         let room = if full == 0 { rest } else { MOST };
-        let mut blocks = repeat_blocks(alloc, item, full)?;
-        let mut last = repeat(alloc, item, rest, room)?;
-        close_end(alloc, &mut blocks, &mut last);
-        Ok(Tiers {
-            alloc,
-            blocks,
-            last,
-            spare: Vec::new(alloc),
-            count,
-            ready: false,
-        })
+        let mut blocks = repeat_blocks(self.alloc, item, full)?;
+        let mut last = repeat(self.alloc, item, rest, room)?;
+        close_end(self.alloc, &mut blocks, &mut last);
+        self.ready = false;
+        self.blocks = blocks;
+        self.last = last;
+        self.count = count;
+        Ok(())
     }
 
-    /// An equal list.
-    pub(crate) fn copy(&self, alloc: Global) -> Result<Tiers<T>, AllocError>
+    /// Gives a list the items of another in place of its own. Without memory it stays as it is.
+    // Filled where it lies, as by `fill`.
+    #[inline(never)]
+    pub(crate) fn copy_from(&mut self, other: &Tiers<T>) -> Result<(), AllocError>
     where
         T: Copy,
-        ensures { IfOk result (λ list. list.items ≡ self.now.items) }
+        ensures { OnOk result (self.new.items ≡ other.now.items) }
     {
-        let blocks = copy_blocks(alloc, &self.blocks)?;
-        let last = Vec::from_slice(alloc, &self.last)?;
-        Ok(Tiers {
-            alloc,
-            blocks,
-            last,
-            spare: Vec::new(alloc),
-            count: self.count,
-            ready: false,
-        })
+        let blocks = copy_blocks(self.alloc, &other.blocks)?;
+        let last = Vec::from_slice(self.alloc, &other.last)?;
+        self.ready = false;
+        self.blocks = blocks;
+        self.last = last;
+        self.count = other.count;
+        Ok(())
     }
 
     /// How many items there are.
