@@ -54,16 +54,59 @@ fn parts_to_ask(order: &Tiered<u32>) -> usize {
     }
 }
 
-/// How many of the ordered programs come before one.
+/// Where a program is among others, or would be. Where this is wrong, changes take longer.
+#[derive(Clone, Copy)]
+pub struct Guess {
+    /// So many come before it in the order of programs.
+    pub(crate) rank: usize,
+    /// The number of the part that it is in.
+    pub(crate) group: usize,
+    /// Which member of that part it is.
+    pub(crate) member: usize,
+}
+
+impl Guess {
+    /// Its rank alone is known.
+    pub(crate) fn of_rank(rank: usize) -> Guess
+        ensures { result.rank ≡ rank }
+    {
+        Guess {
+            rank,
+            group: usize::MAX,
+            member: 0,
+        }
+    }
+}
+
+/// How many of the ordered programs come before one, and where it is or would be.
 // The search begins at a guess, which mostly is right, or else in the middle.
-pub(crate) fn rank_of(placed: &Placements, order: &Tiered<u32>, program: &[Insn]) -> usize
+pub(crate) fn seek(placed: &Placements, order: &Tiered<u32>, program: &[Insn]) -> Guess
+    requires { IsOrder placed.now order.now.items }
+    ensures { IsRank placed.now order.now.items program.now result.rank }
+{
+    match placed.guess(program, parts_to_ask(order)) {
+        Some(guess) => {
+            let rank = rank_near(placed, order, program, guess.rank);
+            Guess { rank, ..guess }
+        }
+        None => {
+            let middle = order.len() / 2;
+            Guess::of_rank(rank_from(placed, order, program, middle, order.len()))
+        }
+    }
+}
+
+/// How many of the ordered programs come before one, by a search that begins at a guess, which mostly is right.
+pub(crate) fn rank_near(
+    placed: &Placements,
+    order: &Tiered<u32>,
+    program: &[Insn],
+    guess: usize,
+) -> usize
     requires { IsOrder placed.now order.now.items }
     ensures { IsRank placed.now order.now.items program.now result }
 {
-    match placed.guess(program, parts_to_ask(order)) {
-        Some(guess) => rank_from(placed, order, program, guess, 1),
-        None => rank_from(placed, order, program, order.len() / 2, order.len()),
-    }
+    rank_from(placed, order, program, guess, 1)
 }
 
 /// The same, by a search that begins at a guess. From there it goes on so far, then twice as far each time, until halves are less.
@@ -184,45 +227,67 @@ fn alike_at(
     }
 }
 
-/// Takes a place out of the order, and gives it to the last, whose program has it then.
+/// Takes a place out of the order, where it is first looked for by a guess, and gives it to the last, whose program has it then. Tells
+/// where that one was.
 // Not in line: what it needs of the stack is free again before the deeper calls.
 #[inline(never)]
-pub(crate) fn take_place(placed: &Placements, order: &mut Tiered<u32>, taken: u32, last: u32)
+pub(crate) fn take_place(
+    placed: &Placements,
+    order: &mut Tiered<u32>,
+    taken: u32,
+    last: u32,
+    guess: Guess,
+) -> Guess
     requires order { IsOrder placed.now order.old.items }
     requires taken { taken < length placed.now }
     requires last { last < length placed.now }
     ensures { (rank : ℕ) × (slice_get order.old.items rank ≡ Some taken) × (order.new.items ≡ map (place_once_taken taken last) (remove order.old.items rank)) }
 {
-    let rank = rank_at(placed, order, taken);
+    let rank = rank_by(placed, order, taken, guess.rank);
+    let mut moved = guess;
     if last != taken {
-        let renamed = rank_at(placed, order, last);
-        order.set(renamed, taken);
+        moved = place_at(placed, order, last);
+        order.set(moved.rank, taken);
     }
     order.remove(rank);
+    moved
 }
 
-/// Where a place is in the order.
-fn rank_at(placed: &Placements, order: &Tiered<u32>, place: u32) -> usize
+/// Where a place is in the order: at a guess, which mostly is right, or else where it is found.
+fn rank_by(placed: &Placements, order: &Tiered<u32>, place: u32, guess: usize) -> usize
     requires order { IsOrder placed.now order.now.items }
     requires within { place < length placed.now }
     ensures { slice_get order.now.items result ≡ Some place }
 {
+    if guess < order.len() && *order.at(guess) == place {
+        guess
+    } else {
+        place_at(placed, order, place).rank
+    }
+}
+
+/// Where a place is in the order, and perhaps where its program is.
+fn place_at(placed: &Placements, order: &Tiered<u32>, place: u32) -> Guess
+    requires order { IsOrder placed.now order.now.items }
+    requires within { place < length placed.now }
+    ensures { slice_get order.now.items result.rank ≡ Some place }
+{
     match order.as_slice() {
-        Some(order) => rank_among(order, place),
+        Some(order) => Guess::of_rank(rank_among(order, place)),
         None => rank_past(placed, order, place),
     }
 }
 
 /// Where a place is in the order, found by its program: past all that are less, and then on to the place.
-fn rank_past(placed: &Placements, order: &Tiered<u32>, place: u32) -> usize
+fn rank_past(placed: &Placements, order: &Tiered<u32>, place: u32) -> Guess
     requires order { IsOrder placed.now order.now.items }
     requires within { place < length placed.now }
-    ensures { slice_get order.now.items result ≡ Some place }
+    ensures { slice_get order.now.items result.rank ≡ Some place }
 {
-    let first = rank_of(placed, order, placed.at(place as usize).verified().code());
-    for rank in first..order.len() {
+    let first = seek(placed, order, placed.at(place as usize).verified().code());
+    for rank in first.rank..order.len() {
         if *order.at(rank) == place {
-            return rank;
+            return Guess { rank, ..first };
         }
     }
     unreachable!()

@@ -9,10 +9,11 @@ ghost use Rattle.installed_filters.specs.Numbering.{Has};
 
 use crate::numbered::Numbered;
 use crate::slots::Slots;
-use filter_group::Shared;
+use filter_group::{Guess, Shared};
 use std::alloc::{AllocError, Global};
 
-/// Puts the program of a filter that comes among those that run, unless it runs already. Without memory those stay, but may have no plan.
+/// Puts the program of a filter that comes among those that run, unless it runs already. What is guessed of where it would be
+/// saves a search. Without memory those stay, but may have no plan.
 #[inline(never)]
 pub(crate) fn start(
     alloc: Global,
@@ -20,6 +21,7 @@ pub(crate) fn start(
     running: &mut Numbered,
     number: u32,
     program: &Option<Shared>,
+    guess: Guess,
 ) -> Result<(), AllocError>
     requires begins { Begins slots.now.slots number program.now }
     requires apart { AreProgramsApart slots.now.slots }
@@ -28,7 +30,7 @@ pub(crate) fn start(
     ensures undone { OnErr result ((m : ℕ) (listed : List AnyInsn) → Has running.new m listed ↔ Has running.old m listed) }
 {
     match not_running(slots, number, program) {
-        Some(program) => running.add_planned(alloc, program, number),
+        Some(program) => running.add_planned(alloc, program, number, guess),
         None => Ok(()),
     }
 }

@@ -126,6 +126,7 @@ impl Filters {
             &mut self.lists.running,
             home.number,
             &home.program,
+            home.guess,
         )?;
         self.change = Some(coming(id, owner, cap, endpoint, home));
         Ok(())
@@ -266,7 +267,11 @@ impl Filters {
 fn coming(id: u32, owner: u16, cap: u32, endpoint: u16, home: Home) -> Change
     ensures { result ≡ Change.Install id (record { owner = owner; cap = cap; endpoint = endpoint; held = true; number = home.number }) home.program }
 {
-    let Home { number, program } = home;
+    let Home {
+        number,
+        program,
+        ..
+    } = home;
     let row = Row {
         owner,
         cap,
@@ -298,7 +303,15 @@ fn exchange(
     ensures undone { OnErr result (AreListed (slot_at slots.now.slots) lists.new.running lists.new.resting) }
 {
     rest(alloc, slots, &mut lists.resting, old)?;
-    let started = start(alloc, slots, &mut lists.running, home.number, &home.program);
+    let running = &mut lists.running;
+    let started = start(
+        alloc,
+        slots,
+        running,
+        home.number,
+        &home.program,
+        home.guess,
+    );
     if started.is_err() {
         wake(slots, &mut lists.resting, old);
     }
@@ -309,7 +322,11 @@ fn exchange(
 fn exchanging(id: u32, old: Row, home: Home) -> Change
     ensures { result ≡ Change.Replace id old (record old { number = home.number }) home.program }
 {
-    let Home { number, program } = home;
+    let Home {
+        number,
+        program,
+        ..
+    } = home;
     let row = Row { number, ..old };
     Change::Replace {
         id,

@@ -8,7 +8,7 @@ ghost use Rattle.installed_filters.specs.Homes.{IsHome, AreHoused, HaveGrown};
 use crate::lists::Lists;
 use crate::reaches::Reaches;
 use crate::slots::Slots;
-use filter_group::Shared;
+use filter_group::{Guess, Shared};
 use std::alloc::AllocError;
 
 /// The number of a program for one filter more.
@@ -17,6 +17,8 @@ pub(crate) struct Home {
     pub(crate) number: u32,
     /// The program, if no filter has it yet.
     pub(crate) program: Option<Shared>,
+    /// Where it is among the programs that run, or would be.
+    pub(crate) guess: Guess,
 }
 
 /// The number of a program for one filter more. What is kept stays, whatever the result.
@@ -32,17 +34,24 @@ pub(crate) fn home_of(
     ensures grown { HaveGrown slots.old.slots slots.new.slots reaches.old.ends reaches.new.ends }
     ensures home { IfOk result (λ home. IsHome slots.new.slots (length reaches.new.ends) program home) }
 {
-    match lists.number_of(&program) {
+    let known = lists.find(&program);
+    match known.number {
         Some(number) => Ok(Home {
             number,
             program: None,
+            guess: known.guess,
         }),
-        None => new_home(slots, reaches, program),
+        None => new_home(slots, reaches, program, known.guess),
     }
 }
 
 /// The home of a program that no filter has.
-fn new_home(slots: &mut Slots, reaches: &mut Reaches, program: Shared) -> Result<Home, AllocError>
+fn new_home(
+    slots: &mut Slots,
+    reaches: &mut Reaches,
+    program: Shared,
+    guess: Guess,
+) -> Result<Home, AllocError>
     requires { (m : ℕ) (s : AnySlot) → slot_at slots.old.slots m ≡ Some s → s.program ≡ program → ⊥ }
     ensures grown { HaveGrown slots.old.slots slots.new.slots reaches.old.ends reaches.new.ends }
     ensures home { IfOk result (λ home. IsHome slots.new.slots (length reaches.new.ends) program home) }
@@ -52,6 +61,7 @@ fn new_home(slots: &mut Slots, reaches: &mut Reaches, program: Shared) -> Result
     Ok(Home {
         number,
         program: Some(program),
+        guess,
     })
 }
 

@@ -78,7 +78,8 @@ fn one_fewer(
     if !count_up(counts, number, slot.held)? {
         return Ok(());
     }
-    resting.add(alloc, &slot.program, number)
+    let guess = resting.find(&slot.program).guess;
+    resting.add(alloc, &slot.program, number, guess)
 }
 
 /// Counts one more of a number, of which there are at most so many. Answers whether these are all.

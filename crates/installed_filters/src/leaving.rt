@@ -28,7 +28,8 @@ pub(crate) fn rest(
 {
     let slot = slot_of(slots, row);
     if goes_to_rest(row, slot) {
-        return resting.add(alloc, &slot.program, row.number);
+        let guess = resting.find(&slot.program).guess;
+        return resting.add(alloc, &slot.program, row.number, guess);
     }
     Ok(())
 }

@@ -2,7 +2,7 @@
 ghost use Rattle.std.specs.Prelude.{◌≡◌, ◌⊎◌, ℕ, [], MatchOption};
 ghost use Rattle.installed_filters.specs.Numbering.{Has};
 
-use crate::numbered::Numbered;
+use crate::numbered::{Known, Numbered};
 use filter_group::Shared;
 use std::alloc::Global;
 
@@ -46,13 +46,17 @@ impl Lists {
         self.resting.clear(alloc);
     }
 
-    /// The number of a program.
-    pub(crate) fn number_of(&self, program: &Shared) -> Option<u32>
-        ensures { MatchOption result ((number : ℕ) → (Has self.now.running number program.now ⊎ Has self.now.resting number program.now) → ⊥) (λ number. Has self.now.running number program.now ⊎ Has self.now.resting number program.now) }
+    /// The number of a program, and where it is in the order of those that run.
+    pub(crate) fn find(&self, program: &Shared) -> Known
+        ensures { MatchOption result.number ((number : ℕ) → (Has self.now.running number program.now ⊎ Has self.now.resting number program.now) → ⊥) (λ number. Has self.now.running number program.now ⊎ Has self.now.resting number program.now) }
     {
-        match self.running.number_of(program) {
-            Some(number) => Some(number),
-            None => self.resting.number_of(program),
+        let known = self.running.find(program);
+        match known.number {
+            Some(_) => known,
+            None => Known {
+                number: self.resting.find(program).number,
+                guess: known.guess,
+            },
         }
     }
 }

@@ -6,9 +6,18 @@ ghost use Rattle.std.specs.Prelude.{List};
 ghost use Rattle.installed_filters.specs.Listing.{IsWith, IsWithout};
 ghost use Rattle.installed_filters.specs.Numbering.{Has, IsFresh, AreHitsBy, AreDistinct, numbered_hit};
 
-use filter_group::{Hit, Lists, Programs, Shared};
+use filter_group::{Guess, Hit, Lists, Programs, Shared};
 use std::alloc::{AllocError, Global};
 use std::marker::Model;
+
+/// What is known of a program among others.
+#[derive(Clone, Copy)]
+pub(crate) struct Known {
+    /// Its number, if it is one of them.
+    pub(crate) number: Option<u32>,
+    /// Where it is among them, or would be.
+    pub(crate) guess: Guess,
+}
 
 /// Different programs, each with a number of its own. Those of one shape run together.
 pub(crate) struct Numbered {
@@ -57,30 +66,37 @@ impl Numbered {
         *self = Numbered::new(alloc);
     }
 
-    /// The number of a program.
-    pub(crate) fn number_of(&self, program: &Shared) -> Option<u32>
-        ensures { MatchOption result ((number : ℕ) → Has self.now number program.now → ⊥) (λ number. Has self.now number program.now) }
+    /// The number of a program, and where it is in their order.
+    pub(crate) fn find(&self, program: &Shared) -> Known
+        ensures { MatchOption result.number ((number : ℕ) → Has self.now number program.now → ⊥) (λ number. Has self.now number program.now) }
     {
-        match self.programs.place_of(program) {
+        let found = self.programs.find(program);
+        let number = match found.place {
             Some(place) => Some(self.numbers[place]),
             None => None,
+        };
+        Known {
+            number,
+            guess: found.guess,
         }
     }
 
-    /// Adds a program, with a number of its own. Those that there are then have no plan. Without memory the programs stay.
+    /// Adds a program, with a number of its own. A plan stays if it holds for it too. Without memory the programs stay. What `find`
+    /// guessed saves a search.
     #[inline(never)]
     pub(crate) fn add(
         &mut self,
         alloc: Global,
         program: &Shared,
         number: u32,
+        guess: Guess,
     ) -> Result<(), AllocError>
         requires { IsFresh self.old number program.now }
         ensures done { OnOk result (IsWith self.old number program.now self.new) }
         ensures undone { OnErr result (self.new ≡ self.old) }
     {
         self.numbers.reserve(1)?;
-        self.programs.add(alloc, program)?;
+        self.programs.add(alloc, program, guess)?;
         let _ = self.numbers.push(number);
         Ok(())
     }
@@ -91,12 +107,13 @@ impl Numbered {
         alloc: Global,
         program: &Shared,
         number: u32,
+        guess: Guess,
     ) -> Result<(), AllocError>
         requires { IsFresh self.old number program.now }
         ensures done { OnOk result (IsWith self.old number program.now self.new) }
         ensures undone { OnErr result ((other : ℕ) (listed : List AnyInsn) → Has self.new other listed ↔ Has self.old other listed) }
     {
-        self.add(alloc, program, number)?;
+        self.add(alloc, program, number, guess)?;
         let planned = self.programs.make_plan(alloc);
         if planned.is_err() {
             self.take_out(program);
@@ -109,8 +126,9 @@ impl Numbered {
     pub(crate) fn take_out(&mut self, program: &Shared)
         ensures { IsWithout self.old program.now self.new }
     {
-        if let Some(place) = self.programs.place_of(program) {
-            self.programs.take_out(place);
+        let found = self.programs.find(program);
+        if let Some(place) = found.place {
+            self.programs.take_out(place, found.guess);
             self.numbers.swap_remove(place);
         }
     }

@@ -1,3 +1,5 @@
+pub mod Backwards
+pub mod Items
 pub mod Keeping
 pub mod Parts
 pub mod Places

@@ -1,17 +1,9 @@
 -- Where the items of full blocks lie.
-use Rattle.std.proofs.Common.{◌≡◌, ◌+◌, ◌-◌, ◌*◌, ◌/◌, ◌%◌, ◌<◌, ◌≤◌, ◌++◌, ℕ, zero, suc, Bool, List, [], ◌∷◌, length, take, drop, replicate, inl, inr, refl, sym, ap, ◌∙◌, append-nil, subst, arith}
-use Rattle.std.proofs.lemmas.Bool.{cases_lt}
-use Rattle.std.proofs.lemmas.List.{length-append, length-take-le, take-take, drop_all, get_or-take, length-replicate, replicate-append-replicate, replicate_more}
+use Rattle.std.proofs.Common.{◌≡◌, ◌+◌, ◌*◌, ◌/◌, ◌%◌, ◌<◌, ◌≤◌, ◌++◌, ℕ, zero, suc, Bool, List, [], ◌∷◌, length, take, replicate, refl, sym, ap, ◌∙◌, subst, arith}
+use Rattle.std.proofs.lemmas.List.{length-append, length-take-le, length-replicate, replicate-append-replicate, replicate_more}
 use Rattle.std.proofs.lemmas.List.Elements.{All-head, All-tail, All-take, All-get_or, All-replicate}
 use Rattle.tiered.specs.Lists.{TieredList}
-use Rattle.tiered.specs.Blocks.{AreFull, AreTiers, block_at, whole}
-use Rattle.tiered.proofs.Whole.{whole_around}
-
--- where an item of a long list lies
-pub record IsSpot {T : Type 0} (bs : List (List T)) (n : ℕ) : Type 0 where
-  pub inside : n / 2048 < length bs
-  pub place : n ≡ length (whole (take (n / 2048) bs)) + n % 2048
-  pub offset : n % 2048 < length (block_at bs (n / 2048))
+use Rattle.tiered.specs.Blocks.{AreFull, block_at, whole}
 
 module _ {T : Type 0} where
   pub length-whole : (bs : List (List T)) → AreFull bs → length (whole bs) ≡ 2048 * length bs
@@ -32,50 +24,6 @@ module _ {T : Type 0} where
   -- a place after the blocks is an offset in the items that follow
   pub place_after : (bs : List (List T)) (n : ℕ) → length bs ≤ n / 2048 → n < 2048 * length bs + 2048 → AreFull bs → n ≡ length (whole bs) + n % 2048
   place_after bs n past near full = let count = length-whole bs full in omega arith
-
-  -- how many items come before the last block, if all blocks before it are full
-  length-tiers : (bs : List (List T)) (m : ℕ) → length bs ≡ m + 1 → AreFull (take m bs) → length (whole bs) ≡ 2048 * m + length (block_at bs m)
-  length-tiers bs m count full =
-      let e = block_at bs m in
-      let rest : drop (suc m) bs ≡ [] = drop_all (suc m) bs (omega arith) in
-      let split : whole bs ≡ whole (take m bs) ++ (e ++ []) = whole_around bs m (omega arith) ∙ ap (λ cs. whole (take m bs) ++ (e ++ whole cs)) rest in
-      omega (arith, ap length split, length-append (whole (take m bs)) (e ++ []), length-append e [], length-whole (take m bs) full, length-take-le m bs (omega arith))
-
-  -- a long list has more items than a block
-  pub tiers_long : (bs : List (List T)) (last : List T) → AreTiers bs last → 0 < length bs → 2048 < length (whole bs ++ last)
-  tiers_long bs last tiers some =
-      let all = length-tiers bs (length bs - 1) (omega arith) tiers.full in
-      omega (arith, all, length-append (whole bs) last, tiers.several some, tiers.some some)
-
-  -- where all items lie in blocks
-  pub tiers_only : (bs : List (List T)) (last : List T) → AreTiers bs last → 0 < length bs → whole bs ++ last ≡ whole bs
-  tiers_only bs last tiers some = ap (λ ys. whole bs ++ ys) (tiers.alone some) ∙ append-nil (whole bs)
-
-  -- a place in a long list is that of a block and an offset in it
-  pub tiers_spot : (bs : List (List T)) (last : List T) (n : ℕ) → AreTiers bs last → 0 < length bs → n < length (whole bs ++ last) → IsSpot bs n
-  tiers_spot bs last n tiers some within =
-      let m = length bs - 1 in
-      let all = length-tiers bs m (omega arith) tiers.full in
-      let short : n < 2048 * m + length (block_at bs m) = omega (arith, all, ap length (tiers_only bs last tiers some)) in
-      let most = tiers.most in
-      let inside : n / 2048 < length bs = omega arith in
-      let full = subst (λ cs. AreFull cs) (take-take (n / 2048) m bs (omega arith)) (All-take (λ b. length b ≡ 2048) (n / 2048) (take m bs) tiers.full) in
-      let count = length-whole (take (n / 2048) bs) full in
-      let blocks = length-take-le (n / 2048) bs (omega arith) in
-      record {
-        inside = inside;
-        place = omega arith;
-        offset = elim (cases_lt (n / 2048) m) [
-          | inl early ↦
-              let read = get_or-take m bs (n / 2048) [] early in
-              let front = length-take-le m bs (omega arith) in
-              let here = block_full (take m bs) (n / 2048) (omega arith) tiers.full in
-              omega (arith, ap length read)
-          | inr late ↦
-              let same : n / 2048 ≡ m = omega arith in
-              omega (arith, ap (λ k. length (block_at bs k)) same)
-        ];
-      }
 
   pub place_inside : (bs : List (List T)) (n : ℕ) → n / 2048 < length bs → AreFull bs → n < length (whole bs)
   place_inside bs n inside full = let count = length-whole bs full in omega arith
@@ -104,9 +52,6 @@ module _ {T : Type 0} where
 -- one more of a thing
 pub repeated_more : {X : Type 0} (xs ys : List X) (n : ℕ) (x y : X) → ys ≡ xs ++ x ∷ [] → x ≡ y → xs ≡ replicate n y → ys ≡ replicate (n + 1) y
 repeated_more xs ys n x y is same before = is ∙ ap (λ z. xs ++ z ∷ []) same ∙ ap (λ zs. zs ++ y ∷ []) before ∙ replicate_more n y
-
-pub repeated_all : {X : Type 0} (xs ys : List X) (n m : ℕ) (x : X) → ys ≡ xs → xs ≡ replicate n x → n ≡ m → ys ≡ replicate m x
-repeated_all xs ys n m x is all same = is ∙ all ∙ ap (λ k. replicate k x) same
 
 -- a list and whether one more insert takes no memory
 abbrev pub listed : {T : Type 0} → List T → Bool → TieredList T

@@ -38,19 +38,6 @@ module _ {T : Type 0} where
       let back : suc p % 2048 ≡ head = omega arith in
       ap (from_head xs) (sym back) ∙ wrapped xs (suc p) full (omega arith)
 
-  -- an item comes in at the front, and the last one goes out
-  pub fronted : (xs : List T) (p : ℕ) (out item : T) → p < length xs → out ≡ get_or xs p out → from_head (slice_set xs p item) p ++ out ∷ [] ≡ item ∷ from_head xs (suc p)
-  fronted xs p out item inside read =
-      let a = take p xs in
-      let u = drop (suc p) xs in
-      let long : length a ≡ p = length-take-le p xs (omega arith) in
-      let longer : length (a ++ out ∷ []) ≡ suc p = omega (arith, length-append a (out ∷ [])) in
-      ap (λ ys. from_head ys p ++ out ∷ []) (set_split xs p item inside)
-      ∙ ap (λ ys. ys ++ out ∷ []) (turned a (item ∷ u) p long)
-      ∙ ap (λ ys. item ∷ ys) (append_assoc u a (out ∷ []))
-      ∙ ap (λ ys. item ∷ ys) (sym (turned (a ++ out ∷ []) u (suc p) longer))
-      ∙ ap (λ ys. item ∷ from_head ys (suc p)) (append_assoc a (out ∷ []) u ∙ sym (parted xs p out inside read))
-
   -- an item comes in at the end, and the first one goes out
   pub ended : (xs : List T) (p : ℕ) (out item : T) → p < length xs → out ≡ get_or xs p out → out ∷ from_head (slice_set xs p item) (suc p) ≡ from_head xs p ++ item ∷ []
   ended xs p out item inside read =

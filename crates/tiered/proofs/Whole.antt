@@ -1,15 +1,11 @@
 -- What a list in blocks is once a block is changed.
 use Rattle.std.proofs.Common.{◌≡◌, ◌+◌, ◌<◌, ◌≤◌, ◌++◌, ℕ, zero, suc, List, [], ◌∷◌, length, slice_get, slice_set, take, drop, refl, sym, ap, ◌∙◌, append_assoc, append-nil, arith}
 use Rattle.std.specs.List.{insert, remove}
-use Rattle.std.proofs.lemmas.List.{length-append, set-get_or, take_all, drop_all}
+use Rattle.std.proofs.lemmas.List.{length-append, set-get_or}
 use Rattle.tiered.specs.Blocks.{block_at, whole, with_before}
 use Rattle.tiered.proofs.Parts.{insert_first, insert_second, remove_first, remove_second, set_first, set_second, get_first, get_second}
 
 module _ {T : Type 0} where
-  pub whole-append : (bs cs : List (List T)) → whole (bs ++ cs) ≡ whole bs ++ whole cs
-  whole-append [] cs = refl
-  whole-append (b ∷ bs) cs = ap (λ rest. b ++ rest) (whole-append bs cs) ∙ sym (append_assoc b (whole bs) (whole cs))
-
   -- a list whose block at a place is this one
   pub whole-set : (bs : List (List T)) (i : ℕ) (c : List T) → i < length bs → whole (slice_set bs i c) ≡ whole (take i bs) ++ (c ++ whole (drop (suc i) bs))
   whole-set [] i c inside = absurd (omega arith)
@@ -43,11 +39,6 @@ module _ {T : Type 0} where
 
   pub after_around : (bs : List (List T)) (i : ℕ) (item : T) → i < length bs → with_before bs (suc i) item ≡ whole (take i bs) ++ ((block_at bs i ++ item ∷ []) ++ whole (drop (suc i) bs))
   after_around bs i item inside = ap (λ cs. with_before cs (suc i) item) (sym (set-get_or bs i [])) ∙ after-set bs i (block_at bs i) item inside
-
-  -- after all blocks
-  pub after_all : (bs : List (List T)) (i : ℕ) (item : T) → i ≡ length bs → with_before bs i item ≡ whole bs ++ item ∷ []
-  after_all bs i item is =
-      ap (λ cs. whole cs ++ item ∷ whole (drop i bs)) (take_all i bs (omega arith)) ∙ ap (λ cs. whole bs ++ item ∷ whole cs) (drop_all i bs (omega arith))
 
   -- a block got an item at the front, and its last one is carried on
   pub carried_on : (bs : List (List T)) (i : ℕ) (c : List T) (out item : T) → i < length bs → c ++ out ∷ [] ≡ item ∷ block_at bs i → with_before (slice_set bs i c) (suc i) out ≡ with_before bs i item

@@ -1,6 +1,6 @@
 -- Lists that lie in blocks.
 -- No public clause cites these.
-use Rattle.std.specs.Prelude.{◌≡◌, ◌+◌, ◌-◌, ◌*◌, ◌<◌, ◌≤◌, ◌++◌, ◌^◌, ℕ, List, [], ◌∷◌, Bool, true, length, take, drop, slice_index_or, vec_len, vec_capacity}
+use Rattle.std.specs.Prelude.{◌≡◌, ◌+◌, ◌*◌, ◌<◌, ◌≤◌, ◌++◌, ◌^◌, ℕ, List, [], ◌∷◌, Bool, true, length, take, drop, reverse, slice_index_or, vec_len, vec_capacity}
 use Rattle.std.specs.List.{All, flat_map}
 use Rattle.std.specs.Global.{Vec}
 
@@ -31,29 +31,28 @@ whole blocks = flat_map (λ b. b) blocks
 abbrev pub with_before : {T : Type 0} → List (List T) → ℕ → T → List T
 with_before blocks i item = whole (take i blocks) ++ item ∷ whole (drop i blocks)
 
--- the last block, or no items
-abbrev pub end_of : {T : Type 0} → List (List T) → List T
-end_of blocks = block_at blocks (length blocks - 1)
+-- all items of a list in tiers: those after blocks lie in reverse, so that the first of them is the last of their vector
+abbrev pub all_of : {T : Type 0} → List (List T) → List T → List T
+all_of [] last = last
+all_of (b ∷ bs) last = whole (b ∷ bs) ++ reverse last
 
--- a short list is one vector alone; of a longer one all items lie in blocks, of which all but the last are full
-pub record AreTiers {T : Type 0} (blocks : List (List T)) (last : List T) : Type 0 where
-  pub full : AreFull (take (length blocks - 1) blocks)
-  pub several : 0 < length blocks → 1 < length blocks
-  pub some : 0 < length blocks → 0 < length (end_of blocks)
-  pub most : length (end_of blocks) ≤ 2048
-  pub alone : 0 < length blocks → last ≡ []
-  pub short : length last ≤ 2048
+-- full blocks and the items after them: at most a block's, and in memory for so many where there are blocks
+pub record AreTiers {T : Type 0} (blocks : List (List T)) (last : Vec T) : Type 0 where
+  pub full : AreFull blocks
+  pub most : length last.items ≤ 2048
+  pub wide : 0 < length blocks → 2048 ≤ vec_capacity last
 
--- memory for one item more: in the vector of a short list, or else for two blocks more, of which one has the spare memory
+-- memory for one item more: in the vector of a short list, or else for one block more, with the spare memory for the items after it
 pub record HasRoom {T : Type 0} (blocks : Vec (List T)) (last spare : Vec T) : Type 0 where
   pub short : length blocks.items ≡ 0 → length last.items < 2048 → vec_len last < vec_capacity last
-  pub next : 2048 ≤ 2048 * length blocks.items + length last.items → vec_len blocks + 2 ≤ vec_capacity blocks
+  pub next : 2048 ≤ 2048 * length blocks.items + length last.items → vec_len blocks < vec_capacity blocks
   pub block : 2048 ≤ 2048 * length blocks.items + length last.items → 2048 ≤ vec_capacity spare
 
--- what is true of the vectors of a list in tiers
+-- what is true of the vectors of a list in tiers: the items of one block alone don't lie in it
 pub record AreKept {T : Type 0} (blocks : Vec (List T)) (last spare : Vec T) (total : ℕ) (ready : Bool) : Type 0 where
-  pub tiers : AreTiers blocks.items last.items
-  pub count : total ≡ length (whole blocks.items ++ last.items)
+  pub tiers : AreTiers blocks.items last
+  pub single : length blocks.items ≡ 1 → 0 < length last.items
+  pub count : total ≡ length (all_of blocks.items last.items)
   pub few : total ≤ 2 ^ 62
   pub empty : spare.items ≡ []
   pub room : ready ≡ true → HasRoom blocks last spare

@@ -34,6 +34,16 @@ fn move_up<T>(items: &mut [T], out: usize, into: usize, item: T) -> T
     old
 }
 
+/// Equal items, with memory for so many as a block has.
+pub(crate) fn copy_items<T: Copy>(alloc: Global, items: &[T]) -> Result<Vec<T>, AllocError>
+    ensures items { IfOk result (λ copies. copies.items ≡ items.now) }
+    ensures room { IfOk result (λ copies. 2048 ≤ vec_capacity copies) }
+{
+    let mut copies = Vec::with_capacity(alloc, MOST)?;
+    copies.extend_from_slice(items)?;
+    Ok(copies)
+}
+
 /// Items in memory for 2,048. They begin at the head and go round the end of the memory once it is full, so that one can be put in at the
 /// front while the last one is taken out, and no other moves.
 pub(crate) struct Block<T> {
@@ -75,10 +85,8 @@ impl<T: Drop> Block<T> {
         T: Copy,
         ensures { IfOk result (λ block. block ≡ self.now) }
     {
-        let mut items = Vec::with_capacity(alloc, MOST)?;
-        items.extend_from_slice(&self.items)?;
         Ok(Block {
-            items,
+            items: copy_items(alloc, &self.items)?,
             head: self.head,
         })
     }
@@ -91,13 +99,6 @@ impl<T: Drop> Block<T> {
         let Block { mut items, head } = self;
         items.rotate_left(head);
         items
-    }
-
-    /// How many items there are.
-    pub(crate) fn len(&self) -> usize
-        ensures { result ≡ length self.now }
-    {
-        self.items.len()
     }
 
     /// The item at an offset.

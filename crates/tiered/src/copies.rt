@@ -1,6 +1,6 @@
 //! Blocks that are made whole.
 
-ghost use Rattle.std.specs.Prelude.{◌≡◌, ◌<◌, ◌≤◌, IfOk, replicate, vec_len, vec_capacity};
+ghost use Rattle.std.specs.Prelude.{◌≡◌, ◌≤◌, IfOk, replicate, vec_capacity};
 
 use crate::block::{Block, MOST};
 use std::alloc::{AllocError, Global};
@@ -22,20 +22,18 @@ pub(crate) fn repeat<T: Copy>(
     Ok(items)
 }
 
-/// So many blocks of one item alone, with memory for one more.
+/// So many blocks of one item alone.
 pub(crate) fn repeat_blocks<T: Copy>(
     alloc: Global,
     item: T,
     count: usize,
 ) -> Result<Vec<Block<T>>, AllocError>
-    ensures items { IfOk result (λ blocks. blocks.items ≡ replicate count (replicate 2048 item)) }
-    ensures room { IfOk result (λ blocks. vec_len blocks < vec_capacity blocks) }
+    ensures { IfOk result (λ blocks. blocks.items ≡ replicate count (replicate 2048 item)) }
 {
-    let mut blocks = Vec::new(alloc);
+    let mut blocks = Vec::with_capacity(alloc, count)?;
     for _made in 0..count {
         blocks.push(Block::new(repeat(alloc, item, MOST, MOST)?))?;
     }
-    blocks.reserve(1)?;
     Ok(blocks)
 }
 

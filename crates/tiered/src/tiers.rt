@@ -3,11 +3,9 @@
 ghost use Rattle.std.specs.Prelude.{◌≡◌, ◌+◌, ◌<◌, ◌≤◌, ◌++◌, ◌∷◌, ◌^◌, ◌↔◌, [], Some, IfSome, IsSome, IsTrue, OnOk, OnErr, IfOk, Bool, true, false, length, replicate, slice_get, slice_set};
 ghost use Rattle.std.specs.List.{insert, remove};
 
-use crate::block::{Block, MOST};
+use crate::block::{Block, MOST, copy_items};
 use crate::copies::{copy_blocks, repeat, repeat_blocks};
-use crate::edits::{
-    close_end, drop_empty, insert_at, make_room, open_for_insert, open_for_remove, remove_at,
-};
+use crate::edits::{insert_at, make_room, remove_at};
 use std::alloc::{AllocError, Global};
 use std::marker::Model;
 
@@ -17,11 +15,11 @@ const MOST_ITEMS: usize = 1 << 62;
 /// A list whose items lie in blocks. It works at any length, so that a long list that got short again stays as it is.
 pub(crate) struct Tiers<T> {
     alloc: Global,
-    /// All items of a list that has more than 2,048. The blocks before the last are full.
+    /// Full blocks. A list of up to 2,048 items has none.
     blocks: Vec<Block<T>>,
-    /// All items of a shorter list.
+    /// The items after the blocks, up to 2,048, in reverse. All items, and not in reverse, where there are no blocks.
     last: Vec<T>,
-    /// Empty memory for the next block.
+    /// Empty memory for the items after the next block.
     spare: Vec<T>,
     count: usize,
     ready: bool,
@@ -42,13 +40,12 @@ impl<T: Drop> Drop for Tiers<T> {
 }
 
 impl<T> Model for Tiers<T> {
-    ghost use Rattle.std.specs.Prelude.{◌++◌};
-    ghost use Rattle.tiered.specs.Blocks.{whole, AreKept};
+    ghost use Rattle.tiered.specs.Blocks.{all_of, AreKept};
     ghost use Rattle.tiered.specs.Lists.{TieredList};
 
     ghost Value = { TieredList T };
 
-    ghost view = { λ a. record { items = whole a.blocks.items ++ a.last.items; ready = a.ready } };
+    ghost view = { λ a. record { items = all_of a.blocks.items a.last.items; ready = a.ready } };
 
     ghost invariant = { λ a. AreKept a.blocks a.last a.spare a.count a.ready };
 }
@@ -70,7 +67,7 @@ impl<T: Drop> Tiers<T> {
         }
     }
 
-    /// Gives a list without items so many times an item. Without memory it stays as it is.
+    /// Gives a list without items so many times an item.
     // Filled where it lies, so that the stack has no list while its parts are made.
     #[inline(never)]
     pub(crate) fn fill(&mut self, item: T, count: usize) -> Result<(), AllocError>
@@ -82,13 +79,12 @@ impl<T: Drop> Tiers<T> {
         if count > MOST_ITEMS {
             return Err(AllocError);
         }
-        // The last items may fill a block, but aren't one yet.
+        // The last items may fill a block, but aren't one.
         let full = count.saturating_sub(1) / MOST;
         let rest = count - full * MOST;
         let room = if full == 0 { rest } else { MOST };
-        let mut blocks = repeat_blocks(self.alloc, item, full)?;
-        let mut last = repeat(self.alloc, item, rest, room)?;
-        close_end(self.alloc, &mut blocks, &mut last);
+        let blocks = repeat_blocks(self.alloc, item, full)?;
+        let last = repeat(self.alloc, item, rest, room)?;
         self.ready = false;
         self.blocks = blocks;
         self.last = last;
@@ -96,7 +92,7 @@ impl<T: Drop> Tiers<T> {
         Ok(())
     }
 
-    /// Gives a list the items of another in place of its own. Without memory it stays as it is.
+    /// Gives a list the items of another in place of its own.
     // Filled where it lies, as by `fill`.
     #[inline(never)]
     pub(crate) fn copy_from(&mut self, other: &Tiers<T>) -> Result<(), AllocError>
@@ -105,7 +101,7 @@ impl<T: Drop> Tiers<T> {
         ensures { OnOk result (self.new.items ≡ other.now.items) }
     {
         let blocks = copy_blocks(self.alloc, &other.blocks)?;
-        let last = Vec::from_slice(self.alloc, &other.last)?;
+        let last = copy_items(self.alloc, &other.last)?;
         self.ready = false;
         self.blocks = blocks;
         self.last = last;
@@ -127,10 +123,14 @@ impl<T: Drop> Tiers<T> {
         requires { place < length self.now.items }
         ensures { slice_get self.now.items place ≡ Some result.now }
     {
+        let block = place / MOST;
+        if block < self.blocks.len() {
+            return self.blocks[block].at(place % MOST);
+        }
         if self.blocks.is_empty() {
             return &self.last[place];
         }
-        self.blocks[place / MOST].at(place % MOST)
+        &self.last[self.last.len() - 1 - place % MOST]
     }
 
     /// All items side by side, if they lie so: up to 2,048 do.
@@ -151,10 +151,14 @@ impl<T: Drop> Tiers<T> {
         requires { place < length self.old.items }
         ensures { self.new ≡ record { items = slice_set self.old.items place item; ready = self.old.ready } }
     {
-        if self.blocks.is_empty() {
+        let block = place / MOST;
+        if block < self.blocks.len() {
+            self.blocks[block].set(place % MOST, item);
+        } else if self.blocks.is_empty() {
             self.last[place] = item;
         } else {
-            self.blocks[place / MOST].set(place % MOST, item);
+            let end = self.last.len();
+            self.last[end - 1 - place % MOST] = item;
         }
     }
 
@@ -180,14 +184,14 @@ impl<T: Drop> Tiers<T> {
         ensures { self.new ≡ record { items = insert self.old.items place item; ready = false } }
     {
         self.ready = false;
-        open_for_insert(
+        insert_at(
             self.alloc,
             &mut self.blocks,
             &mut self.last,
             &mut self.spare,
+            place,
+            item,
         );
-        insert_at(&mut self.blocks, &mut self.last, place, item);
-        close_end(self.alloc, &mut self.blocks, &mut self.last);
         self.count += 1;
     }
 
@@ -198,15 +202,7 @@ impl<T: Drop> Tiers<T> {
         ensures items { self.new ≡ record { items = remove self.old.items place; ready = false } }
     {
         self.ready = false;
-        open_for_remove(&mut self.blocks, &mut self.last);
-        let item = remove_at(&mut self.blocks, &mut self.last, place);
-        drop_empty(
-            self.alloc,
-            &mut self.blocks,
-            &mut self.last,
-            &mut self.spare,
-        );
-        close_end(self.alloc, &mut self.blocks, &mut self.last);
+        let item = remove_at(&mut self.blocks, &mut self.last, &mut self.spare, place);
         self.count -= 1;
         item
     }

@@ -1,4 +1,4 @@
-use Rattle.std.proofs.Common.{◌≡◌, ◌∙◌, ◌+◌, ◌-◌, ◌/◌, arith, ap, ℕ, true, false, is_lt, Some, slice_get, sym}
+use Rattle.std.proofs.Common.{◌≡◌, ◌∙◌, arith, ap, ℕ, true, false, is_lt, Some, slice_get, sym}
 use Rattle.filter_group.specs.Order.{program_cmp}
 use Rattle.filter_group.proofs.Sorting.{between_earlier, between_later}
 use Rattle.filter_group.proofs.order.rank_from.Goals as goal

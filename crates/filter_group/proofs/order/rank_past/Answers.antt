@@ -10,8 +10,8 @@ loop-rank-init c =
     let placed = c.args.placed.now in
     let order = c.args.order.now.items in
     let sought : c.code.result.now ≡ c.at.result.now = c.code.ensures.code ∙ c.verified.ensures in
-    from_rank placed order c.at.result.now c.rank_of-first.result c.args.place c.requires.order
-    (subst (λ (p : List Insn). IsRank placed order p c.rank_of-first.result) sought c.rank_of-first.ensures) c.at.ensures
+    from_rank placed order c.at.result.now c.seek-first.result.rank c.args.place c.requires.order
+    (subst (λ (p : List Insn). IsRank placed order p c.seek-first.result.rank) sought c.seek-first.ensures) c.at.ensures
 
 pub loop-rank-preserved : goal.loop-rank-preserved
 loop-rank-preserved c =

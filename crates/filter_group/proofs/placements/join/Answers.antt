@@ -1,7 +1,9 @@
 use Rattle.std.proofs.Common.{◌≡◌, ◌∙◌, ◌++◌, ◌∷◌, [], IsOk, ap, arith, length, List, ℕ, slice_set, sym, subst}
 use Rattle.filter_group.specs.Placed.{Placed}
 use Rattle.filter_group.specs.Places.{IsIndexed, part_with}
+use Rattle.std.proofs.lemmas.Option.{slice_get_within}
 use Rattle.filter_group.proofs.Gathering.{joined, read_is}
+use Rattle.filter_group.proofs.KeptPlan.{other_at}
 use Rattle.filter_group.proofs.placements.join.Goals as goal
 
 pub returns-clause-done : goal.returns-clause-done
@@ -20,3 +22,6 @@ returns-clause-done c = λ programs h.
     subst (λ (xs : List ℕ). IsIndexed (programs ++ program ∷ []) xs (slice_set parts group c.insert.new.self)) (sym groups_are)
     (subst (λ (p : Placed). IsIndexed (programs ++ program ∷ []) (groups ++ group ∷ []) (slice_set parts group p)) (sym part_is)
     (joined programs groups parts h program group home.part home.there member home.within))
+
+pub returns-clause-joined : goal.returns-clause-joined
+returns-clause-joined c = (c.insert.new.self, other_at c.args.parts.now.items c.args.home.group c.insert.new.self (slice_get_within c.args.parts.now.items c.args.home.group c.requires.home.part c.requires.home.there))

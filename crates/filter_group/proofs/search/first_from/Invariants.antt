@@ -1,4 +1,4 @@
-use Rattle.std.proofs.Common.{◌-◌, ◌≤◌, length}
+use Rattle.std.proofs.Common.{◌-◌, ◌≤◌}
 use Rattle.filter_group.proofs.search.first_from.Given as goal
 
 abbrev pub invariant-loop-low : goal.invariant-loop-low

@@ -12,9 +12,9 @@ invariant_of-self-2 c =
     let placed = c.self.inside.placed in
     let order = c.self.inside.order.items in
     let program = c.args.program.now in
-    let rank = c.rank_of-rank.result in
-    let sought : c.code.result.now ≡ program = c.code.ensures.code ∙ c.verified.ensures in
-    let is_rank : IsRank placed order program rank = subst (λ (p : List Insn). IsRank placed order p rank) sought c.rank_of-rank.ensures in
+    let rank = c.rank_near-rank.result in
+    let sought : c.code-code.result.now ≡ program = c.code-code.ensures.code ∙ c.verified.ensures in
+    let is_rank : IsRank placed order program rank = subst (λ (p : List Insn). IsRank placed order p rank) sought c.rank_near-rank.ensures in
     let place : c.in_ok-place.place ≡ length placed = c.in_ok-place.ensures.same ∙ c.len.ensures.count in
     let items : c.insert_reserved.new.self.items ≡ insert order rank (length placed) =
     ap (λ (t : TieredList ℕ). t.items) c.insert_reserved.ensures

@@ -1,5 +1,5 @@
 use Rattle.std.proofs.Common.{◌≡◌, List, ℕ, Some, slice_get, subst, sym}
-use Rattle.filter_group.proofs.order.rank_at.Goals as goal
+use Rattle.filter_group.proofs.order.place_at.Goals as goal
 
 pub rank_among-requires : goal.rank_among-requires
 rank_among-requires c =
