@@ -14,10 +14,10 @@ import sys
 
 # Bytes that a call may take; all that aren't named take at most 2,048.
 MOST = {
-    "mkdemux_boot_cores": 3280,
-    "mkdemux_boot_limits_cores": 3280,
-    "mkdemux_turn": 3584,
-    "mkdemux_settle": 3520,
+    "mkdemux_boot_cores": 3392,
+    "mkdemux_boot_limits_cores": 3392,
+    "mkdemux_turn": 4000,
+    "mkdemux_settle": 3936,
 }
 OTHERS = 2048
 # Functions that call themselves, and how many of their calls are open at a time at most. A list that is sorted here has at most 65,536
