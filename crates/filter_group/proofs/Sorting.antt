@@ -1,5 +1,5 @@
 -- The order of programs, and their places in it.
-use Rattle.std.proofs.Common.{◌≡◌, ◌<◌, ◌≤◌, ◌+◌, ◌⊎◌, inl, inr, ℕ, Bool, true, false, zero, suc, List, [], ◌∷◌, ◌++◌, length, map, drop, min, Some, slice_get, slice_set, get_or, refl, ap, sym, ◌∙◌, subst, arith}
+use Rattle.std.proofs.Common.{◌-◌, ◌≡◌, ◌<◌, ◌≤◌, ◌+◌, ◌⊎◌, inl, inr, ℕ, Bool, true, false, zero, suc, List, [], ◌∷◌, ◌++◌, length, map, drop, min, Some, slice_get, slice_set, get_or, refl, ap, sym, ◌∙◌, subst, arith}
 use Rattle.std.specs.List.{insert, remove}
 use Rattle.std.specs.Cmp.{IsTotalOrder}
 use Rattle.std.specs.Cmp.Lexicographic.{slice_cmp}
@@ -300,6 +300,18 @@ module _ (programs : List (List Insn)) (order : List ℕ) (program : List Insn) 
         let other_less : program_cmp other program ≡ Less = below other p program (h.rising middle i place a other p late at at' there there') less in
         absurd (let no : true ≡ false = ap is_lt (sym other_less) ∙ not in cc);
   }
+
+-- The programs on both sides of a rank are one before another and one that isn't
+pub stands_between : (programs : List (List Insn)) (order : List ℕ) (program : List Insn) (rank a b : ℕ) (p q : List Insn) → IsOrder programs order → 0 < rank
+    → slice_get order (rank - 1) ≡ Some a → slice_get programs a ≡ Some p → slice_get order rank ≡ Some b → slice_get programs b ≡ Some q
+    → is_lt (program_cmp p program) ≡ true → is_lt (program_cmp q program) ≡ false → IsRank programs order program rank
+stands_between programs order program rank a b p q h some at there at' there' less not =
+    let within : rank < length order = slice_get_within order rank b at' in
+    let all = between_all programs order program (length order) refl in
+    let later = between_later programs order program 0 (length order) (rank - 1) a p h all (omega arith) (omega arith) at there less in
+    let both = between_earlier programs order program (rank - 1 + 1) (length order) rank b q h later (omega arith) (omega arith) at' there' not in
+    let same : rank - 1 + 1 ≡ rank = omega arith in
+    subst (λ (n : ℕ). IsRank programs order program n) same (between_none programs order program (rank - 1 + 1) rank both (omega arith))
 
 module _ (programs : List (List Insn)) (order : List ℕ) (program : List Insn) (rank : ℕ) (h : IsOrder programs order) (r : IsRank programs order program rank) where
   fresh : (i : ℕ) → slice_get order i ≡ Some (length programs) → ⊥

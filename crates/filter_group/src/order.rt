@@ -5,6 +5,7 @@ ghost use Rattle.std.specs.List.{remove};
 ghost use Rattle.filter_group.specs.Order.{IsOrder, IsRank, place_once_taken, program_cmp};
 
 use crate::placements::Placements;
+use crate::search::probe;
 use crate::shape::{are_one_shape, is_alike, shape_order};
 use bpf_insn::Insn;
 use filter_verify::Verified;
@@ -79,12 +80,29 @@ impl Guess {
 }
 
 /// How many of the ordered programs come before one, and where it is or would be.
-// The search begins at a guess, which mostly is right, or else in the middle.
 pub(crate) fn seek(placed: &Placements, order: &Tiered<u32>, program: &[Insn]) -> Guess
     requires { IsOrder placed.now order.now.items }
     ensures { IsRank placed.now order.now.items program.now result.rank }
 {
-    match placed.guess(program, parts_to_ask(order)) {
+    seek_from(
+        placed,
+        order,
+        program,
+        placed.guess(program, parts_to_ask(order)),
+    )
+}
+
+/// The same, by a search that begins at a guess, which mostly is right, or else in the middle.
+fn seek_from(
+    placed: &Placements,
+    order: &Tiered<u32>,
+    program: &[Insn],
+    guess: Option<Guess>,
+) -> Guess
+    requires { IsOrder placed.now order.now.items }
+    ensures { IsRank placed.now order.now.items program.now result.rank }
+{
+    match guess {
         Some(guess) => {
             let rank = rank_near(placed, order, program, guess.rank);
             Guess { rank, ..guess }
@@ -106,7 +124,34 @@ pub(crate) fn rank_near(
     requires { IsOrder placed.now order.now.items }
     ensures { IsRank placed.now order.now.items program.now result }
 {
-    rank_from(placed, order, program, guess, 1)
+    if is_between(placed, order, program, guess) {
+        guess
+    } else {
+        rank_from(placed, order, program, guess, 1)
+    }
+}
+
+/// The instructions of the program of a rank.
+fn code_at<'a>(placed: &'a Placements, order: &Tiered<u32>, rank: usize) -> &'a [Insn]
+    requires order { IsOrder placed.now order.now.items }
+    requires within { rank < length order.now.items }
+    ensures { (place : ℕ) × (slice_get order.now.items rank ≡ Some place) × (slice_get placed.now place ≡ Some result.now) }
+{
+    placed.at(*order.at(rank) as usize).verified().code()
+}
+
+/// Whether the programs on both sides of a rank show that a program has it.
+// Both are fetched before one is compared, so that one wait for memory is not after the other.
+fn is_between(placed: &Placements, order: &Tiered<u32>, program: &[Insn], rank: usize) -> bool
+    requires { IsOrder placed.now order.now.items }
+    ensures { IsTrue result → IsRank placed.now order.now.items program.now rank }
+{
+    if rank == 0 || rank >= order.len() {
+        return false;
+    }
+    let before = code_at(placed, order, rank - 1);
+    let after = code_at(placed, order, rank);
+    program_order(before, program).is_lt() && !program_order(after, program).is_lt()
 }
 
 /// The same, by a search that begins at a guess. From there it goes on so far, then twice as far each time, until halves are less.
@@ -126,31 +171,13 @@ fn rank_from(
     while low < high {
         let middle = probe(low, high, guess, far);
         far = far.saturating_mul(2);
-        let place = *order.at(middle) as usize;
-        let other = placed.at(place).verified().code();
-        if program_order(other, program).is_lt() {
+        if program_order(code_at(placed, order, middle), program).is_lt() {
             low = middle + 1;
         } else {
             high = middle;
         }
     }
     low
-}
-
-/// Where a search looks next: at its guess, or so far from what it has ruled out towards there, but no farther than half of what is left.
-fn probe(low: usize, high: usize, guess: usize, far: usize) -> usize
-    requires { low < high }
-    ensures low { low ≤ result }
-    ensures high { result < high }
-{
-    let half = low + (high - low) / 2;
-    if guess < low {
-        half.min(low.saturating_add(far))
-    } else if guess < high {
-        guess
-    } else {
-        half.max((high - 1).saturating_sub(far))
-    }
 }
 
 /// The places of two programs of one's shape that are nearest to it in the order, as far as there are any.
@@ -179,7 +206,7 @@ impl Near {
     }
 }
 
-/// The places of programs of this one's shape, among the nearest to this one's rank.
+/// The places of programs of this one's shape, among the nearest to this one's rank. Those of the part that it may join count as such.
 // Mostly they are neighbours. Others that ask for another kind of packet may lie between.
 // Not in line: what it needs of the stack is free again before the deeper calls.
 #[inline(never)]
@@ -188,6 +215,7 @@ pub(crate) fn near_to(
     order: &Tiered<u32>,
     rank: usize,
     program: &Verified,
+    group: usize,
 ) -> Near
     requires { IsOrder placed.now order.now.items }
 {
@@ -197,9 +225,10 @@ pub(crate) fn near_to(
     };
     for distance in 0..NEAREST {
         if rank > distance {
-            near = near.and(alike_at(placed, order, rank - 1 - distance, program));
+            near = near.and(alike_at(placed, order, rank - 1 - distance, program, group));
         }
-        near = near.and(alike_at(placed, order, rank.saturating_add(distance), program));
+        let after = rank.saturating_add(distance);
+        near = near.and(alike_at(placed, order, after, program, group));
         if near.second.is_some() {
             return near;
         }
@@ -207,12 +236,14 @@ pub(crate) fn near_to(
     near
 }
 
-/// The place of the program of this rank, if it has this one's shape.
+/// The place of the program of this rank, if it is in this part or has this one's shape.
+// To see where it runs takes less than to compare the two.
 fn alike_at(
     placed: &Placements,
     order: &Tiered<u32>,
     rank: usize,
     program: &Verified,
+    group: usize,
 ) -> Option<u32>
     requires { IsOrder placed.now order.now.items }
 {
@@ -220,7 +251,9 @@ fn alike_at(
         return None;
     }
     let place = *order.at(rank);
-    if are_one_shape(placed.at(place as usize).verified(), program) {
+    if placed.group_at(place) == group
+        || are_one_shape(placed.at(place as usize).verified(), program)
+    {
         Some(place)
     } else {
         None
@@ -253,13 +286,20 @@ pub(crate) fn take_place(
     moved
 }
 
+/// Whether a place is in the order at a rank.
+fn is_at(order: &Tiered<u32>, rank: usize, place: u32) -> bool
+    ensures { IsTrue result → slice_get order.now.items rank ≡ Some place }
+{
+    rank < order.len() && *order.at(rank) == place
+}
+
 /// Where a place is in the order: at a guess, which mostly is right, or else where it is found.
 fn rank_by(placed: &Placements, order: &Tiered<u32>, place: u32, guess: usize) -> usize
     requires order { IsOrder placed.now order.now.items }
     requires within { place < length placed.now }
     ensures { slice_get order.now.items result ≡ Some place }
 {
-    if guess < order.len() && *order.at(guess) == place {
+    if is_at(order, guess, place) {
         guess
     } else {
         place_at(placed, order, place).rank
@@ -278,13 +318,20 @@ fn place_at(placed: &Placements, order: &Tiered<u32>, place: u32) -> Guess
     }
 }
 
-/// Where a place is in the order, found by its program: past all that are less, and then on to the place.
+/// Where a place is in the order, found by its program: at a guess, or else past all that are less, and then on to the place.
 fn rank_past(placed: &Placements, order: &Tiered<u32>, place: u32) -> Guess
     requires order { IsOrder placed.now order.now.items }
     requires within { place < length placed.now }
     ensures { slice_get order.now.items result.rank ≡ Some place }
 {
-    let first = seek(placed, order, placed.at(place as usize).verified().code());
+    let code = placed.at(place as usize).verified().code();
+    let guess = placed.guess(code, parts_to_ask(order));
+    if let Some(guess) = guess {
+        if is_at(order, guess.rank, place) {
+            return guess;
+        }
+    }
+    let first = seek_from(placed, order, code, guess);
     for rank in first.rank..order.len() {
         if *order.at(rank) == place {
             return Guess { rank, ..first };

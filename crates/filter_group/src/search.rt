@@ -6,6 +6,12 @@ use crate::answers::Slot;
 use bpf_insn::Insn;
 use tiered::Tiered;
 
+/// Among more constants than this a search begins where a number would be if they rose evenly.
+const MANY: usize = 64;
+
+/// So far from there it looks next, about as much as is fetched with one constant.
+const NEAR: usize = 8;
+
 /// Members in a row.
 #[derive(Clone, Copy)]
 struct Span {
@@ -13,7 +19,41 @@ struct Span {
     end: usize,
 }
 
+/// Where a search looks next: at its guess, or so far from what it has ruled out towards there, but no farther than half of what is left.
+pub(crate) fn probe(low: usize, high: usize, guess: usize, far: usize) -> usize
+    requires { low < high }
+    ensures low { low ≤ result }
+    ensures high { result < high }
+{
+    let half = low + (high - low) / 2;
+    if guess < low {
+        half.min(low.saturating_add(far))
+    } else if guess < high {
+        guess
+    } else {
+        half.max((high - 1).saturating_sub(far))
+    }
+}
+
+/// Where a number would be among some constants if they rose evenly.
+fn even_place(constants: &Tiered<u32>, k: u32, first: usize, end: usize) -> usize
+    requires order { first < end }
+    requires end { end ≤ length constants.now.items }
+{
+    let least = *constants.at(first);
+    let most = *constants.at(end - 1);
+    if k <= least {
+        return first;
+    }
+    if k >= most {
+        return end - 1;
+    }
+    let share = u64::from(k - least).saturating_mul((end - first) as u64) / u64::from(most - least);
+    first.saturating_add(share as usize)
+}
+
 /// Before which of some constants that rise a number goes: the first that is at least that.
+// Among many the search begins where it would be if they rose evenly, and goes on from there: what it looks at lies closer together then.
 fn first_from(constants: &Tiered<u32>, k: u32, first: usize, end: usize) -> usize
     requires order { first ≤ end }
     requires end { end ≤ length constants.now.items }
@@ -22,8 +62,14 @@ fn first_from(constants: &Tiered<u32>, k: u32, first: usize, end: usize) -> usiz
 {
     let mut low = first;
     let mut high = end;
+    let (guess, mut far) = if end - first > MANY {
+        (even_place(constants, k, first, end), NEAR)
+    } else {
+        (end, end)
+    };
     while low < high {
-        let middle = low + (high - low) / 2;
+        let middle = probe(low, high, guess, far);
+        far = far.saturating_mul(2);
         if *constants.at(middle) < k {
             low = middle + 1;
         } else {

@@ -70,8 +70,12 @@ pub(crate) fn are_one_shape(a: &Verified, b: &Verified) -> bool
 
 /// Whether two programs differ at more places than a group has columns for.
 fn differ_in_many(code: &[Insn], other: &[Insn]) -> bool {
+    let count = code.len().min(other.len());
+    if count <= MOST_COLUMNS {
+        return false;
+    }
     let mut left = MOST_COLUMNS;
-    for place in 0..code.len().min(other.len()) {
+    for place in 0..count {
         if code[place] != other[place] {
             if left == 0 {
                 return true;

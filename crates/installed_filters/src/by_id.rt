@@ -128,6 +128,8 @@ impl Rows {
     }
 
     /// The filters that are held and whose capability goes, each with its id, in order.
+    // Not in line: what it needs of the stack is free again before the deeper calls.
+    #[inline(never)]
     pub(crate) fn lapsing_under(
         &self,
         alloc: Global,

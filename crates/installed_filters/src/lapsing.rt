@@ -83,6 +83,8 @@ fn one_fewer(
 }
 
 /// Counts one more of a number, of which there are at most so many. Answers whether these are all.
+// Not in line: what it needs of the stack is free again before the deeper calls.
+#[inline(never)]
 fn count_up(counts: &mut Sorted<u32>, number: u32, most: u32) -> Result<bool, AllocError>
     requires { number_of (value_at counts.old.entries number) < most }
     ensures all { IfOk result (λ all. IsTrue all ↔ (number_of (value_at counts.old.entries number) + 1 ≡ most)) }

@@ -1,4 +1,4 @@
-use Rattle.std.proofs.Common.{◌≡◌, ◌∙◌, arith, ap, ℕ, true, false, is_lt, Some, slice_get, sym}
+use Rattle.std.proofs.Common.{◌≡◌, ◌∙◌, arith, ap, ℕ, true, false, is_lt, sym}
 use Rattle.filter_group.specs.Order.{program_cmp}
 use Rattle.filter_group.proofs.Sorting.{between_earlier, between_later}
 use Rattle.filter_group.proofs.order.rank_from.Goals as goal
@@ -12,9 +12,9 @@ loop-low-preserved-then-is_lt c =
     let middle : ℕ = c.probe-middle.result in
     let from = c.probe-middle.ensures.low in
     let to = c.probe-middle.ensures.high in
-    let there : slice_get placed c.at.result.now ≡ Some c.code-other.result.now = c.at-in-loop-low.ensures ∙ ap Some (sym (c.code-other.ensures.code ∙ c.verified.ensures)) in
-    let less : is_lt (program_cmp c.code-other.result.now c.args.program.now) ≡ true = ap is_lt (sym c.program_order.ensures) ∙ (sym c.is_lt.ensures ∙ c.if-is_lt.true) in
-    between_later placed c.args.order.now.items c.args.program.now c.loop-low.low c.loop-low.high middle c.at.result.now c.code-other.result.now c.requires b (omega arith) (omega arith) c.at.ensures there less
+    let there = c.code_at.ensures in
+    let less : is_lt (program_cmp c.code_at.result.now c.args.program.now) ≡ true = ap is_lt (sym c.program_order.ensures) ∙ (sym c.is_lt.ensures ∙ c.if-is_lt.true) in
+    between_later placed c.args.order.now.items c.args.program.now c.loop-low.low c.loop-low.high middle there.0 c.code_at.result.now c.requires b (omega arith) (omega arith) there.1 there.2 less
 
 pub loop-low-preserved : goal.loop-low-preserved
 loop-low-preserved c =
@@ -25,6 +25,6 @@ loop-low-preserved c =
     let middle : ℕ = c.probe-middle.result in
     let from = c.probe-middle.ensures.low in
     let to = c.probe-middle.ensures.high in
-    let there : slice_get placed c.at.result.now ≡ Some c.code-other.result.now = c.at-in-loop-low.ensures ∙ ap Some (sym (c.code-other.ensures.code ∙ c.verified.ensures)) in
-    let less : is_lt (program_cmp c.code-other.result.now c.args.program.now) ≡ false = ap is_lt (sym c.program_order.ensures) ∙ (sym c.is_lt.ensures ∙ c.if-is_lt.false) in
-    between_earlier placed c.args.order.now.items c.args.program.now c.loop-low.low c.loop-low.high middle c.at.result.now c.code-other.result.now c.requires b (omega arith) (omega arith) c.at.ensures there less
+    let there = c.code_at.ensures in
+    let less : is_lt (program_cmp c.code_at.result.now c.args.program.now) ≡ false = ap is_lt (sym c.program_order.ensures) ∙ (sym c.is_lt.ensures ∙ c.if-is_lt.false) in
+    between_earlier placed c.args.order.now.items c.args.program.now c.loop-low.low c.loop-low.high middle there.0 c.code_at.result.now c.requires b (omega arith) (omega arith) there.1 there.2 less

@@ -9,9 +9,9 @@ pub loop-rank-init : goal.loop-rank-init
 loop-rank-init c =
     let placed = c.args.placed.now in
     let order = c.args.order.now.items in
-    let sought : c.code.result.now ≡ c.at.result.now = c.code.ensures.code ∙ c.verified.ensures in
-    from_rank placed order c.at.result.now c.seek-first.result.rank c.args.place c.requires.order
-    (subst (λ (p : List Insn). IsRank placed order p c.seek-first.result.rank) sought c.seek-first.ensures) c.at.ensures
+    let sought : c.code-code.result.now ≡ c.at.result.now = c.code-code.ensures.code ∙ c.verified.ensures in
+    from_rank placed order c.at.result.now c.seek_from-first.result.rank c.args.place c.requires.order
+    (subst (λ (p : List Insn). IsRank placed order p c.seek_from-first.result.rank) sought c.seek_from-first.ensures) c.at.ensures
 
 pub loop-rank-preserved : goal.loop-rank-preserved
 loop-rank-preserved c =
