@@ -16,8 +16,8 @@ import sys
 MOST = {
     "mkdemux_boot_cores": 3392,
     "mkdemux_boot_limits_cores": 3392,
-    "mkdemux_turn": 4000,
-    "mkdemux_settle": 3936,
+    "mkdemux_turn": 3456,
+    "mkdemux_settle": 3392,
 }
 OTHERS = 2048
 # Functions that call themselves, and how many of their calls are open at a time at most. A list that is sorted here has at most 65,536
