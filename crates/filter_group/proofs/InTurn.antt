@@ -10,27 +10,43 @@ use Rattle.filter_group.proofs.Indexed.{set_here, set_other}
 use Rattle.filter_group.proofs.Sides.{one_thing}
 
 -- the first of them are related to what they were, and the others are that
-pub record AreDone (R : Slot → Slot → Type 0) (count : ℕ) (before after : List Slot) : Type 0 where
+pub record AreDone {X : Type 0} (R : ℕ → X → X → Type 0) (count : ℕ) (before after : List X) : Type 0 where
   pub many : length after ≡ length before
-  pub done : (i : ℕ) (old slot : Slot) → i < count → slice_get before i ≡ Some old → slice_get after i ≡ Some slot → R old slot
+  pub done : (i : ℕ) (old new : X) → i < count → slice_get before i ≡ Some old → slice_get after i ≡ Some new → R i old new
   pub rest : (i : ℕ) → count ≤ i → slice_get after i ≡ slice_get before i
 
-pub done_none : (R : Slot → Slot → Type 0) (slots : List Slot) → AreDone R 0 slots slots
-done_none R slots = record { many = refl; done = λ i old slot low at_old at. absurd (omega arith); rest = λ i from. refl }
+pub done_none : {X : Type 0} (R : ℕ → X → X → Type 0) (xs : List X) → AreDone R 0 xs xs
+done_none R xs = record { many = refl; done = λ i old new low at_old at. absurd (omega arith); rest = λ i from. refl }
 
-pub done_more : (R : Slot → Slot → Type 0) (n : ℕ) (before slots : List Slot) (one new : Slot) → AreDone R n before slots → slice_get slots n ≡ Some one → R one new
-    → AreDone R (n + 1) before (slice_set slots n new)
-done_more R n before slots one new are at_one is = record {
-  many = length-set slots n new ∙ are.many;
-  done = λ i old slot low at_old at. elim (cases_eq i n) [
+pub done_more : {X : Type 0} (R : ℕ → X → X → Type 0) (n : ℕ) (before xs : List X) (one new : X) → AreDone R n before xs → slice_get xs n ≡ Some one → R n one new
+    → AreDone R (n + 1) before (slice_set xs n new)
+done_more {X} R n before xs one new are at_one is = record {
+  many = length-set xs n new ∙ are.many;
+  done = λ i old x low at_old at. elim (cases_eq i n) [
     | inl same ↦
-        let was : slice_get slots n ≡ Some old = are.rest n (omega arith) ∙ subst (λ (m : ℕ). slice_get before m ≡ Some old) same at_old in
-        let is_old : one ≡ old = one_thing slots n one old at_one was in
-        let is_new : new ≡ slot = one_thing (slice_set slots n new) n new slot (set_here slots n new (slice_get_within slots n one at_one)) (subst (λ (m : ℕ). slice_get (slice_set slots n new) m ≡ Some slot) same at) in
-        subst (λ (s : Slot). R old s) is_new (subst (λ (s : Slot). R s new) is_old is)
-    | inr apart ↦ are.done i old slot (omega arith) at_old (sym (set_other slots n i new apart) ∙ at)
+        let was : slice_get xs n ≡ Some old = are.rest n (omega arith) ∙ subst (λ (m : ℕ). slice_get before m ≡ Some old) same at_old in
+        let is_old : one ≡ old = one_thing xs n one old at_one was in
+        let is_new : new ≡ x = one_thing (slice_set xs n new) n new x (set_here xs n new (slice_get_within xs n one at_one)) (subst (λ (m : ℕ). slice_get (slice_set xs n new) m ≡ Some x) same at) in
+        subst (λ (m : ℕ). R m old x) (sym same) (subst (λ (s : X). R n old s) is_new (subst (λ (s : X). R n s new) is_old is))
+    | inr apart ↦ are.done i old x (omega arith) at_old (sym (set_other xs n i new apart) ∙ at)
   ];
-  rest = λ i from. set_other slots n i new (λ e. omega arith) ∙ are.rest i (omega arith);
+  rest = λ i from. set_other xs n i new (λ e. omega arith) ∙ are.rest i (omega arith);
+}
+
+-- the next one stays
+pub done_kept : {X : Type 0} (R : ℕ → X → X → Type 0) (n : ℕ) (before xs : List X) (one : X) → AreDone R n before xs → slice_get xs n ≡ Some one → R n one one
+    → AreDone R (n + 1) before xs
+done_kept {X} R n before xs one are at_one is = record {
+  many = are.many;
+  done = λ i old x low at_old at. elim (cases_eq i n) [
+    | inl same ↦
+        let was : slice_get xs n ≡ Some old = are.rest n (omega arith) ∙ subst (λ (m : ℕ). slice_get before m ≡ Some old) same at_old in
+        let is_old : one ≡ old = one_thing xs n one old at_one was in
+        let is_new : one ≡ x = one_thing xs n one x at_one (subst (λ (m : ℕ). slice_get xs m ≡ Some x) same at) in
+        subst (λ (m : ℕ). R m old x) (sym same) (subst (λ (s : X). R n old s) is_new (subst (λ (s : X). R n s one) is_old is))
+    | inr apart ↦ are.done i old x (omega arith) at_old at
+  ];
+  rest = λ i from. are.rest i (omega arith);
 }
 
 -- the slots say the same

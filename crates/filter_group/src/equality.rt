@@ -1,8 +1,8 @@
 //! The tests for equality of programs of one shape.
 
-ghost use Rattle.std.specs.Prelude.{◌≡◌, ◌+◌, ◌<◌, IfOk, IsTrue, Some, length, slice_get};
+ghost use Rattle.std.specs.Prelude.{◌≡◌, ◌+◌, ◌<◌, ◌≤◌, IfOk, IsTrue, Some, length, slice_get};
 ghost use Rattle.bpf_insn.specs.Program.{FormAt};
-ghost use Rattle.filter_group.specs.Equalities.{AreEqualitiesOf, IsEqualityOf};
+ghost use Rattle.filter_group.specs.Equalities.{AreEqualitiesOf, AreMarked, AreWider, IsBetween, IsEqualityOf, IsMarked, IsWider};
 
 use bpf_insn::{Form, Insn, Test};
 use std::alloc::{AllocError, Global};
@@ -16,6 +16,40 @@ pub(crate) struct Equality {
     pub(crate) jf: u8,
     /// Whether a run in which it fails surely ends with verdict 0 by the next instruction.
     pub(crate) is_silent: bool,
+    /// No program's constant is less. That of one that is gone may be meant still.
+    pub(crate) least: u32,
+    /// No program's constant is greater, in the same way.
+    pub(crate) most: u32,
+}
+
+impl Equality {
+    /// Whether the test surely fails in all programs.
+    #[inline(always)]
+    pub(crate) fn excludes(self, a: u32) -> bool
+        ensures { IsTrue result → IsBetween self a → ⊥ }
+    {
+        a < self.least || self.most < a
+    }
+
+    /// The same where a constant more may be.
+    fn with(self, k: u32) -> Equality
+        ensures { IsWider self k result }
+    {
+        Equality {
+            least: self.least.min(k),
+            most: self.most.max(k),
+            ..self
+        }
+    }
+
+    /// The same of programs with other marks, of which this is one.
+    fn marked(self, code: &[Insn], marks: &[usize], pc: usize) -> Equality
+        requires { pc < length code.now }
+        ensures { IsMarked self code.now marks.now pc result }
+    {
+        let is_silent = returns_zero(code, marks, pc + 1 + usize::from(self.jf));
+        Equality { is_silent, ..self }
+    }
 }
 
 /// Nothing is known.
@@ -24,6 +58,8 @@ const UNKNOWN: Equality = Equality {
     jt: 0,
     jf: 0,
     is_silent: false,
+    least: 0,
+    most: 0,
 };
 
 /// Whether a program returns 0 at a place where its mark is 0.
@@ -50,13 +86,15 @@ fn equality_at(code: &[Insn], marks: &[usize], pc: usize) -> Equality
                 test: Test::Equal,
                 jt,
                 jf,
-                ..
+                k,
             },
         ) => Equality {
             is_there: true,
             jt,
             jf,
             is_silent: returns_zero(code, marks, pc + 1 + usize::from(jf)),
+            least: k,
+            most: k,
         },
         _ => UNKNOWN,
     }
@@ -77,4 +115,33 @@ pub(crate) fn equalities_of(
         found.push(equality_at(code, marks, pc))?;
     }
     Ok(found)
+}
+
+/// The same tests of programs with other marks, of which this is one.
+pub(crate) fn marked_anew(
+    alloc: Global,
+    equalities: &[Equality],
+    code: &[Insn],
+    marks: &[usize],
+) -> Result<Vec<Equality>, AllocError>
+    requires { length equalities.now ≤ length code.now }
+    ensures { IfOk result (λ found. AreMarked equalities.now found.items code.now marks.now) }
+{
+    let mut found = Vec::with_capacity(alloc, equalities.len())?;
+    for pc in 0..equalities.len() {
+        found.push(equalities[pc].marked(code, marks, pc))?;
+    }
+    Ok(found)
+}
+
+/// The same tests, which may have the constants of a program more. Takes no memory.
+pub(crate) fn widen(equalities: &mut [Equality], code: &[Insn])
+    requires { length equalities.old ≤ length code.now }
+    ensures { AreWider equalities.old equalities.new code.now }
+{
+    for pc in 0..equalities.len() {
+        if equalities[pc].is_there {
+            equalities[pc] = equalities[pc].with(code[pc].k);
+        }
+    }
 }

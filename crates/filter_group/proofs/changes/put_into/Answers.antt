@@ -53,7 +53,7 @@ loop-n-preserved c =
     let read = get_or slots here c.index-slots-n.result in
     let at = slice_get-get_or slots here c.index-slots-n-in-loop-n.result (omega arith) in
     let same : read ≡ one = one_thing slots here read one (slice_get-get_or slots here c.index-slots-n.result (omega arith)) at in
-    done_more (λ old slot. (insn : Insn) → slice_get code old.place ≡ Some insn → IsMore old c.args.member insn.k slot) here c.args.slots.now slots one c.put.new.self c.loop-n.invariant at
+    done_more (λ i old slot. (insn : Insn) → slice_get code old.place ≡ Some insn → IsMore old c.args.member insn.k slot) here c.args.slots.now slots one c.put.new.self c.loop-n.invariant at
     (λ insn at_insn.
     let constant : (get_or code read.place no_insn).k ≡ insn.k =
     ap (λ (s : Slot). (get_or code s.place no_insn).k) same ∙ ap (λ (i : Insn). i.k) (get_or_from_slice_get code one.place insn no_insn at_insn) in

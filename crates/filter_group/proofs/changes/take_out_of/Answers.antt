@@ -5,7 +5,7 @@ use Rattle.filter_group.proofs.InTurn.{done_more, done_none}
 use Rattle.filter_group.proofs.changes.take_out_of.Goals as goal
 
 pub loop-n-init : goal.loop-n-init
-loop-n-init c = done_none (λ old slot. IsLess old c.args.member slot) c.args.slots.now
+loop-n-init c = done_none (λ i old slot. IsLess old c.args.member slot) c.args.slots.now
 
 pub take_out-requires-clause-member : goal.take_out-requires-clause-member
 take_out-requires-clause-member c =
@@ -27,7 +27,7 @@ loop-n-preserved c =
     let here = c.loop-n.n in
     let one = get_or slots here c.index-slots-n.result in
     let at = slice_get-get_or slots here c.index-slots-n.result (omega arith) in
-    done_more (λ old slot. IsLess old c.args.member slot) here c.args.slots.now slots one c.take_out.new.self c.loop-n.invariant at
+    done_more (λ i old slot. IsLess old c.args.member slot) here c.args.slots.now slots one c.take_out.new.self c.loop-n.invariant at
     (record { place = c.take_out.ensures.place; constants = c.take_out.ensures.constants; rising = c.take_out.ensures.rising })
 
 pub returns : goal.returns
