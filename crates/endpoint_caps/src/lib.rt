@@ -4,9 +4,10 @@
 //! Computations" (1966), and in seL4 (Reference Manual, "Capability derivation").
 #![tactic(auto)]
 
-ghost use Rattle.std.specs.Prelude.{◌≡◌};
+ghost use Rattle.std.specs.Prelude.{◌≡◌, ◌<◌, IfSome};
 ghost use Rattle.endpoint_caps.specs.Capabilities.{has_right, is_within};
 
+use std::marker::Model;
 use thiserror::Error;
 
 mod limits;
@@ -58,6 +59,47 @@ pub enum Right {
     Mint,
 }
 
+/// The id of the capability that one was minted from, if it was. It takes four bytes: the last number is no id.
+#[derive(Clone, Copy, PartialEq, Eq, Debug)]
+pub struct Parent {
+    word: u32,
+}
+
+impl Model for Parent {
+    ghost use Rattle.std.specs.Prelude.{◌==◌, if◌then◌else◌, ℕ, Option, None, Some, unwrap_or};
+
+    ghost Value = { Option ℕ };
+
+    ghost view = { λ parent. if parent.word == 4294967295 then None else Some parent.word };
+
+    ghost inverse = { λ id. record { word = unwrap_or id 4294967295 } };
+}
+
+impl Parent {
+    /// None.
+    pub const NONE: Parent = Parent { word: u32::MAX };
+
+    /// This capability, or none. The last number is none too.
+    pub fn new(id: Option<u32>) -> Parent
+        ensures { IfSome id (λ n. n < 4294967295) → result ≡ id }
+    {
+        Parent {
+            word: id.unwrap_or(u32::MAX),
+        }
+    }
+
+    /// Its id, if there is one.
+    pub fn id(self) -> Option<u32>
+        ensures { result ≡ self }
+    {
+        if self.word == u32::MAX {
+            None
+        } else {
+            Some(self.word)
+        }
+    }
+}
+
 /// A capability.
 #[derive(Clone, Copy, PartialEq, Eq, Debug)]
 pub struct Cap {
@@ -70,7 +112,7 @@ pub struct Cap {
     /// What the holder may do.
     pub rights: Rights,
     /// The capability that it was minted from, if it was.
-    pub parent: Option<u32>,
+    pub parent: Parent,
 }
 
 /// Why an operation on capabilities is refused.

@@ -9,7 +9,7 @@ ghost use Rattle.endpoint_caps.specs.Holding.{child_key, counted, maker_of, numb
 ghost use Rattle.endpoint_caps.specs.Keeping.{entries_of};
 ghost use Rattle.chunked.specs.Maps.{value_at};
 
-use crate::{Cap, CapFault, CapLimits, Right, Rights};
+use crate::{Cap, CapFault, CapLimits, Parent, Right, Rights};
 use chunked::{Items, Sorted};
 use std::alloc::{AllocError, Global};
 use std::marker::Model;
@@ -442,7 +442,7 @@ impl Caps {
             endpoint,
             holder: domain,
             rights: Rights::Rm,
-            parent: None,
+            parent: Parent::NONE,
         };
         self.by_id.insert_reserved(u64::from(id), cap);
         self.taken.insert_reserved(u64::from(endpoint), ());
@@ -481,7 +481,7 @@ impl Caps {
             endpoint: from.endpoint,
             holder,
             rights,
-            parent: Some(from.id),
+            parent: Parent::new(Some(from.id)),
         };
         self.by_id.insert_reserved(u64::from(id), cap);
         self.children.insert_reserved(key_of_child(from.id, id), ());
@@ -558,7 +558,8 @@ impl Caps {
     {
         let cap = self.by_id.remove(u64::from(id))?;
         count_down(&mut self.counts, maker_of(&self.by_id, &cap));
-        match cap.parent {
+        let parent = cap.parent.id();
+        match parent {
             Some(parent) => {
                 self.children.remove(key_of_child(parent, id));
             }
@@ -566,7 +567,7 @@ impl Caps {
                 self.taken.remove(u64::from(cap.endpoint));
             }
         }
-        cap.parent
+        parent
     }
 }
 
@@ -592,7 +593,7 @@ fn first_key(keys: &Sorted<()>, from: u64) -> Option<u64>
 fn maker_of(by_id: &Sorted<Cap>, cap: &Cap) -> u16
     ensures { result ≡ maker_of by_id.now.entries cap.now }
 {
-    match cap.parent {
+    match cap.parent.id() {
         None => cap.holder,
         Some(parent) => match by_id.get(u64::from(parent)) {
             Some(parent) => parent.holder,

@@ -5,7 +5,7 @@ ghost use Rattle.table_replica.specs.Lent.{shown_filter};
 ghost use Rattle.sim_lines.specs.Tables.{cap_line, filter_line, parent_word, table_text, total_line};
 ghost use Rattle.sim_lines.specs.Tables as spec;
 
-use endpoint_caps::{Cap, Rights};
+use endpoint_caps::{Cap, Parent, Rights};
 use std::alloc::{AllocError, Global};
 use std::fmt::Write;
 use table_replica::{Filter, FilterIter, Replica};
@@ -68,10 +68,10 @@ fn push_cap(text: &mut String, cap: Cap) -> Result<(), AllocError>
 }
 
 /// Prints the capability that one was minted from.
-fn push_parent(text: &mut String, parent: Option<u32>) -> Result<(), AllocError>
+fn push_parent(text: &mut String, parent: Parent) -> Result<(), AllocError>
     ensures { OnOk result (string_bytes text.new ≡ string_bytes text.old ++ parent_word parent) }
 {
-    match parent {
+    match parent.id() {
         None => text.push_str("-"),
         Some(id) => write!(text, "{id}"),
     }

@@ -44,7 +44,7 @@ fn row_of(cap: Cap) -> CapRow
 {
     CapRow {
         id: cap.id,
-        parent: parent_number(cap.parent),
+        parent: parent_number(cap.parent.id()),
         endpoint: cap.endpoint,
         holder: cap.holder,
         rights: rights_number(cap.rights),

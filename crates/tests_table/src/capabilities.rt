@@ -1,6 +1,6 @@
 //! The worked calls on a table of capabilities.
 use crate::facts::{equal, equal_at};
-use endpoint_caps::{Cap, CapFault, CapLimits, Caps, Right, Rights};
+use endpoint_caps::{Cap, CapFault, CapLimits, Caps, Parent, Right, Rights};
 use std::alloc::Global;
 use std::fmt::Debug;
 use std::process::Abort;
@@ -55,7 +55,7 @@ fn cap(row: &Row) -> Cap {
         endpoint,
         holder,
         rights,
-        parent,
+        parent: Parent::new(parent),
     }
 }
 

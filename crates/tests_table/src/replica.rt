@@ -2,7 +2,7 @@
 use crate::asks::asked;
 use crate::facts::{equal, equal_at, holds};
 use bpf_insn::Insn;
-use endpoint_caps::{Cap, CapLimits, Rights};
+use endpoint_caps::{Cap, CapLimits, Parent, Rights};
 use std::alloc::{AllocError, Global};
 use std::process::Abort;
 use table_replica::{Kept, Limits, Made, NothingStaged, Op, OpFault, Program, Replica, StageFault};
@@ -114,7 +114,7 @@ fn holds_caps(rt: &impl Abort, replica: &Replica, wanted: &[(u32, u16, u16)]) {
             endpoint: *endpoint,
             holder: *holder,
             rights: Rights::Rm,
-            parent: None,
+            parent: Parent::NONE,
         };
         equal_at(rt, replica.caps().get(*id).copied(), Some(cap), &wanted);
     }

@@ -4,7 +4,7 @@ ghost use Rattle.world_core.specs.Refusals.{IsShortEvent};
 
 use super::sights::{after, listed, places_of, sights};
 use crate::facts::{equal, equal_at};
-use endpoint_caps::{Cap, Rights};
+use endpoint_caps::{Cap, Parent, Rights};
 use pcap_reader::SharedPacket;
 use seq::Shared;
 use std::alloc::{AllocError, Global};
@@ -221,7 +221,7 @@ const CAP: Cap = Cap {
     endpoint: 7,
     holder: 1,
     rights: Rights::Rm,
-    parent: None,
+    parent: Parent::NONE,
 };
 
 fn take_step<C: Channel>(

@@ -1,11 +1,13 @@
-use Rattle.std.proofs.Common.{◌≡◌, ◌==◌, ◌+◌, ◌++◌, ◌<◌, ℕ, Some, [], ◌∷◌, refl, ap, sym, ◌∙◌, subst}
+use Rattle.std.proofs.Common.{◌≡◌, ◌==◌, ◌+◌, ◌++◌, ◌<◌, ℕ, Option, Some, is_none, [], ◌∷◌, arith, refl, ap, sym, ◌∙◌, subst}
+use Rattle.std.specs.BTreeMap.{insert_entry}
+use Rattle.std.specs.Ordering.{nat_cmp}
 use Rattle.std.specs.Prelude.{if◌then◌else◌}
 use Rattle.chunked.specs.Maps.{SortedMap, value_at}
 use Rattle.endpoint_caps.specs.declared.Cap.{Cap}
 use Rattle.endpoint_caps.specs.Capabilities.{CapTable, cap_at}
 use Rattle.endpoint_caps.specs.Keeping.{caps_of}
 use Rattle.endpoint_caps.specs.Holding.{Holding, child_key}
-use Rattle.endpoint_caps.proofs.Keeping.{view-push}
+use Rattle.endpoint_caps.proofs.Keeping.{held-below, view-push}
 use Rattle.endpoint_caps.proofs.Holding.{free_key, put_last, below_ids, no_value, free_child, held-minted}
 use Rattle.endpoint_caps.proofs.Shares.{count-fits, counted-made, maker-minted}
 use Rattle.endpoint_caps.proofs.table.Caps.add_child.Goals as goal
@@ -26,8 +28,11 @@ invariant_of-self c =
     let cap : Cap = record { id = c.self.inside.next; endpoint = c.args.from.endpoint; holder = c.args.holder; rights = c.args.rights; parent = Some c.args.from.id } in
     let was : ◌≡◌ {A = CapTable} (record { held = caps_of c.self.inside.by_id.entries; next = c.self.inside.next }) c.args.self.now.table = ap (λ (v : Holding). v.table) c.self.view_is in
     let key : c.key_of_child.result ≡ child_key c.args.from.id c.self.inside.next = c.key_of_child.ensures in
-    let put = put_last _ _ c.self.inside.next c.from.result cap c.self.invariant.held.kept c.from.ensures (ap (λ (m : SortedMap Cap). m.entries) c.insert_reserved.ensures.entries) in
     let there = subst (λ (t : CapTable). cap_at t.held c.args.from.id ≡ Some c.args.from) (sym was) c.requires.from in
+    let low = held-below (caps_of c.self.inside.by_id.entries) c.self.inside.next c.args.from.id c.self.invariant.held.kept.in_order (ap is_none there) in
+    let below = subst (λ (t : CapTable). t.next < 4294967295) (sym was) c.requires.below in
+    let put = put_last _ _ c.self.inside.next c.from.result cap c.self.invariant.held.kept c.from.ensures (ap (λ (m : SortedMap Cap). m.entries) c.insert_reserved.ensures.entries
+    ∙ ap (λ (p : Option ℕ). insert_entry nat_cmp c.self.inside.by_id.entries c.from.result (record { id = c.self.inside.next; endpoint = c.args.from.endpoint; holder = c.args.holder; rights = c.args.rights; parent = p })) (c.new.ensures (omega arith))) in
     record {
       held = held-minted c.self.inside.by_id.entries c.insert_reserved.new.self.entries c.self.inside.children.entries c.insert_reserved-2.new.self.entries c.self.inside.taken.entries c.self.inside.next cap c.args.from tt
           c.self.invariant.held refl refl refl there (below_ids c.self.inside.next (subst (λ (t : CapTable). t.next < 4294967295) (sym was) c.requires.below)) put
@@ -46,6 +51,10 @@ pub returns-clause-table : goal.returns-clause-table
 returns-clause-table c =
     let cap : Cap = record { id = c.self.inside.next; endpoint = c.args.from.endpoint; holder = c.args.holder; rights = c.args.rights; parent = Some c.args.from.id } in
     let was : ◌≡◌ {A = CapTable} (record { held = caps_of c.self.inside.by_id.entries; next = c.self.inside.next }) c.args.self.now.table = ap (λ (v : Holding). v.table) c.self.view_is in
+    let there = subst (λ (t : CapTable). cap_at t.held c.args.from.id ≡ Some c.args.from) (sym was) c.requires.from in
+    let low = held-below (caps_of c.self.inside.by_id.entries) c.self.inside.next c.args.from.id c.self.invariant.held.kept.in_order (ap is_none there) in
+    let below = subst (λ (t : CapTable). t.next < 4294967295) (sym was) c.requires.below in
     view-push c.args.self.now.table c.self.inside.by_id.entries c.insert_reserved.new.self.entries c.self.inside.next cap was
-    (put_last _ _ c.self.inside.next c.from.result cap c.self.invariant.held.kept c.from.ensures (ap (λ (m : SortedMap Cap). m.entries) c.insert_reserved.ensures.entries))
+    (put_last _ _ c.self.inside.next c.from.result cap c.self.invariant.held.kept c.from.ensures (ap (λ (m : SortedMap Cap). m.entries) c.insert_reserved.ensures.entries
+    ∙ ap (λ (p : Option ℕ). insert_entry nat_cmp c.self.inside.by_id.entries c.from.result (record { id = c.self.inside.next; endpoint = c.args.from.endpoint; holder = c.args.holder; rights = c.args.rights; parent = p })) (c.new.ensures (omega arith))))
     ∙ ap (λ (t : CapTable). record { held = c.args.self.now.table.held ++ record { id = t.next; endpoint = c.args.from.endpoint; holder = c.args.holder; rights = c.args.rights; parent = Some c.args.from.id } ∷ []; next = c.args.self.now.table.next + 1 }) was
