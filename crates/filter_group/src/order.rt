@@ -6,7 +6,7 @@ ghost use Rattle.filter_group.specs.Order.{IsOrder, IsRank, place_once_taken, pr
 
 use crate::placements::Placements;
 use crate::search::probe;
-use crate::shape::{are_one_shape, is_alike, shape_order};
+use crate::shape::{are_one_shape, are_same, is_alike, shape_order};
 use bpf_insn::Insn;
 use filter_verify::Verified;
 use std::cmp::Ordering;
@@ -17,6 +17,9 @@ const NEAREST: usize = 8;
 
 /// So few programs are compared in less time than their parts are asked.
 const FEW_PROGRAMS: usize = 64;
+
+/// So few places are looked at in less time than a program is found.
+const FEW_PLACES: usize = 512;
 
 /// So many parts of a list of programs that lie side by side are asked where a program comes, and so many of a longer one.
 const FEW_PARTS_OF_SHORT: usize = 2;
@@ -33,7 +36,7 @@ pub(crate) fn program_order(a: &[Insn], b: &[Insn]) -> Ordering
         let one = a[place];
         let other = b[place];
         // Most that are compared are the same: this takes less than their order.
-        if one != other {
+        if !are_same(one, other) {
             if !is_alike(one, other) {
                 return shape_order(one, other);
             }
@@ -313,8 +316,8 @@ fn place_at(placed: &Placements, order: &Tiered<u32>, place: u32) -> Guess
     ensures { slice_get order.now.items result.rank ≡ Some place }
 {
     match order.as_slice() {
-        Some(order) => Guess::of_rank(rank_among(order, place)),
-        None => rank_past(placed, order, place),
+        Some(order) if order.len() <= FEW_PLACES => Guess::of_rank(rank_among(order, place)),
+        _ => rank_past(placed, order, place),
     }
 }
 
