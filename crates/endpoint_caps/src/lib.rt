@@ -4,7 +4,7 @@
 //! Computations" (1966), and in seL4 (Reference Manual, "Capability derivation").
 #![tactic(auto)]
 
-ghost use Rattle.std.specs.Prelude.{◌≡◌, ◌<◌, IfSome};
+ghost use Rattle.std.specs.Prelude.{◌≡◌, ◌<◌, IfSome, None, Some};
 ghost use Rattle.endpoint_caps.specs.Capabilities.{has_right, is_within};
 
 use std::marker::Model;
@@ -81,7 +81,8 @@ impl Parent {
 
     /// This capability, or none. The last number is none too.
     pub fn new(id: Option<u32>) -> Parent
-        ensures { IfSome id (λ n. n < 4294967295) → result ≡ id }
+        ensures same { IfSome id (λ n. n < 4294967295) → result ≡ id }
+        ensures last_is_none { id ≡ Some 4294967295 → result ≡ None }
     {
         Parent {
             word: id.unwrap_or(u32::MAX),

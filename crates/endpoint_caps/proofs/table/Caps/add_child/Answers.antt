@@ -32,7 +32,7 @@ invariant_of-self c =
     let low = held-below (caps_of c.self.inside.by_id.entries) c.self.inside.next c.args.from.id c.self.invariant.held.kept.in_order (ap is_none there) in
     let below = subst (λ (t : CapTable). t.next < 4294967295) (sym was) c.requires.below in
     let put = put_last _ _ c.self.inside.next c.from.result cap c.self.invariant.held.kept c.from.ensures (ap (λ (m : SortedMap Cap). m.entries) c.insert_reserved.ensures.entries
-    ∙ ap (λ (p : Option ℕ). insert_entry nat_cmp c.self.inside.by_id.entries c.from.result (record { id = c.self.inside.next; endpoint = c.args.from.endpoint; holder = c.args.holder; rights = c.args.rights; parent = p })) (c.new.ensures (omega arith))) in
+    ∙ ap (λ (p : Option ℕ). insert_entry nat_cmp c.self.inside.by_id.entries c.from.result (record { id = c.self.inside.next; endpoint = c.args.from.endpoint; holder = c.args.holder; rights = c.args.rights; parent = p })) (c.new.ensures.same (omega arith))) in
     record {
       held = held-minted c.self.inside.by_id.entries c.insert_reserved.new.self.entries c.self.inside.children.entries c.insert_reserved-2.new.self.entries c.self.inside.taken.entries c.self.inside.next cap c.args.from tt
           c.self.invariant.held refl refl refl there (below_ids c.self.inside.next (subst (λ (t : CapTable). t.next < 4294967295) (sym was) c.requires.below)) put
@@ -56,5 +56,5 @@ returns-clause-table c =
     let below = subst (λ (t : CapTable). t.next < 4294967295) (sym was) c.requires.below in
     view-push c.args.self.now.table c.self.inside.by_id.entries c.insert_reserved.new.self.entries c.self.inside.next cap was
     (put_last _ _ c.self.inside.next c.from.result cap c.self.invariant.held.kept c.from.ensures (ap (λ (m : SortedMap Cap). m.entries) c.insert_reserved.ensures.entries
-    ∙ ap (λ (p : Option ℕ). insert_entry nat_cmp c.self.inside.by_id.entries c.from.result (record { id = c.self.inside.next; endpoint = c.args.from.endpoint; holder = c.args.holder; rights = c.args.rights; parent = p })) (c.new.ensures (omega arith))))
+    ∙ ap (λ (p : Option ℕ). insert_entry nat_cmp c.self.inside.by_id.entries c.from.result (record { id = c.self.inside.next; endpoint = c.args.from.endpoint; holder = c.args.holder; rights = c.args.rights; parent = p })) (c.new.ensures.same (omega arith))))
     ∙ ap (λ (t : CapTable). record { held = c.args.self.now.table.held ++ record { id = t.next; endpoint = c.args.from.endpoint; holder = c.args.holder; rights = c.args.rights; parent = Some c.args.from.id } ∷ []; next = c.args.self.now.table.next + 1 }) was
