@@ -1,5 +1,7 @@
 //! Assertions as calls. A call is proved in no time, where each assertion of the macros adds branches to the proof of the whole test.
 
+ghost use Rattle.std.specs.Prelude.{IsTrue};
+
 use std::fmt::Debug;
 use std::process::Abort;
 
@@ -19,6 +21,8 @@ pub(crate) fn equal_at<T: Drop + PartialEq + Debug, Row: Debug>(
 }
 
 /// The fact holds.
-pub(crate) fn holds(rt: &impl Abort, fact: bool) {
+pub(crate) fn holds(rt: &impl Abort, fact: bool)
+    ensures { IsTrue fact }
+{
     assert!(rt; fact);
 }

@@ -2,6 +2,7 @@
 
 ghost use Rattle.std.specs.Prelude.{◌<◌};
 
+use crate::facts::{equal, holds};
 use chunked::Sorted;
 use std::collections::BTreeMap;
 use std::test::Fail;
@@ -27,30 +28,30 @@ fn is_send<T: Send>(_value: &T) {}
 fn short_lists_lie_side_by_side(rt: HostRuntime) -> Result<(), Fail> {
     let mut list = Tiered::new(rt.alloc());
     is_send(&list);
-    assert!(rt; list.is_empty());
+    holds(&rt, list.is_empty());
     for number in 0..2048u32 {
         list.push(number)?;
     }
-    assert_eq!(rt; list.as_slice().map(|items| items.len()), Some(2048));
+    equal(&rt, list.as_slice().map(|items| items.len()), Some(2048));
     list.reserve()?;
-    assert_eq!(rt; list.as_slice().map(|items| items.len()), Some(2048));
+    equal(&rt, list.as_slice().map(|items| items.len()), Some(2048));
     list.insert_reserved(0, 9);
-    assert!(rt; list.as_slice().is_none());
-    assert_eq!(rt; list.len(), 2049);
-    assert_eq!(rt; *list.at(0), 9);
-    assert_eq!(rt; *list.at(2048), 2047);
+    holds(&rt, list.as_slice().is_none());
+    holds(&rt, list.len() == 2049);
+    equal(&rt, *list.at(0), 9);
+    equal(&rt, *list.at(2048), 2047);
     list.set(2048, 7);
-    assert_eq!(rt; list.remove(2048), 7);
-    assert_eq!(rt; list.len(), 2048);
-    assert_eq!(rt; list.as_slice().map(|items| items.len()), Some(2048));
+    equal(&rt, list.remove(2048), 7);
+    holds(&rt, list.len() == 2048);
+    equal(&rt, list.as_slice().map(|items| items.len()), Some(2048));
     list.set(1, 5);
-    assert_eq!(rt; *list.at(1), 5);
+    equal(&rt, *list.at(1), 5);
     list.clear();
-    assert!(rt; list.is_empty());
+    holds(&rt, list.is_empty());
     list.push(3)?;
-    assert_eq!(rt; list.as_slice(), Some([3u32].as_slice()));
+    equal(&rt, list.as_slice(), Some([3u32].as_slice()));
     list.clear();
-    assert_eq!(rt; list.len(), 0);
+    equal(&rt, list.len(), 0);
     Ok(())
 }
 
@@ -58,22 +59,22 @@ fn short_lists_lie_side_by_side(rt: HostRuntime) -> Result<(), Fail> {
 fn copies_stand_alone(rt: HostRuntime) -> Result<(), Fail> {
     for count in [0usize, 1, 2048, 2049, 4096, 5000] {
         let list = Tiered::repeated(rt.alloc(), 7u32, count)?;
-        assert_eq!(rt; list.len(), count);
-        assert_eq!(rt; list.as_slice().is_some(), count <= 2048);
+        holds(&rt, list.len() == count);
+        equal(&rt, list.as_slice().is_some(), count <= 2048);
         let mut other = list.copy(rt.alloc())?;
         other.push(8)?;
-        assert_eq!(rt; other.len(), count + 1);
-        assert_eq!(rt; *other.at(count), 8);
-        assert_eq!(rt; list.len(), count);
+        holds(&rt, other.len() == count + 1);
+        equal(&rt, *other.at(count), 8);
+        holds(&rt, list.len() == count);
     }
     let mut long = Tiered::repeated(rt.alloc(), 7u32, 2049)?;
-    assert_eq!(rt; long.len(), 2049);
+    holds(&rt, long.len() == 2049);
     long.set(2048, 6);
     long.remove(0);
     let short = long.copy(rt.alloc())?;
-    assert_eq!(rt; short.len(), 2048);
-    assert_eq!(rt; short.as_slice(), long.as_slice());
-    assert_eq!(rt; *short.at(2047), 6);
+    holds(&rt, short.len() == 2048);
+    equal(&rt, short.as_slice(), long.as_slice());
+    equal(&rt, *short.at(2047), 6);
     Ok(())
 }
 
@@ -85,7 +86,7 @@ fn edits_at_random_are_those_of_a_vector(rt: HostRuntime) -> Result<(), Fail> {
     for step in 0..20_000u64 {
         seed = next(seed);
         let count = list.len();
-        assert_eq!(rt; plain.len(), count);
+        holds(&rt, plain.len() == count);
         let grows = if step % 10_000 < 5000 { 15 } else { 3 };
         if count == 0 || seed >> 60 < grows {
             let place = below(seed, count + 1);
@@ -94,13 +95,13 @@ fn edits_at_random_are_those_of_a_vector(rt: HostRuntime) -> Result<(), Fail> {
             plain.insert(place, step)?;
         } else {
             let place = below(seed, count);
-            assert_eq!(rt; list.at(place), &plain[place]);
-            assert_eq!(rt; list.remove(place), plain.remove(place));
+            equal(&rt, list.at(place), &plain[place]);
+            equal(&rt, list.remove(place), plain.remove(place));
         }
         if step % 1000 == 0 {
-            assert_eq!(rt; plain.len(), list.len());
+            holds(&rt, plain.len() == list.len());
             for place in 0..list.len() {
-                assert_eq!(rt; list.at(place), &plain[place]);
+                equal(&rt, list.at(place), &plain[place]);
             }
         }
     }
@@ -116,25 +117,25 @@ fn keys_at_random_are_those_of_a_map(rt: HostRuntime) -> Result<(), Fail> {
     for step in 0..8000u64 {
         seed = next(seed);
         let key = below(seed, 1500) as u64;
-        assert_eq!(rt; map.get(key), plain.get(&key));
+        equal(&rt, map.get(key), plain.get(&key));
         let grows = if step % 4000 < 2000 { 11 } else { 4 };
         if map.contains(key) {
             if seed >> 60 < grows {
                 map.set(key, step);
                 plain.insert(key, step)?;
             } else {
-                assert_eq!(rt; map.remove(key), plain.remove(&key));
+                equal(&rt, map.remove(key), plain.remove(&key));
             }
         } else {
             map.reserve()?;
             map.insert_reserved(key, step);
             plain.insert(key, step)?;
         }
-        assert!(rt; map.chunk_count() <= map.len() / 32 + 1);
-        assert_eq!(rt; map.len(), plain.len());
+        holds(&rt, map.chunk_count() <= map.len() / 32 + 1);
+        equal(&rt, map.len(), plain.len());
         if step % 1000 == 0 {
             for (entry, (key, value)) in map.iter().zip(plain.iter()) {
-                assert_eq!(rt; entry, &(*key, *value));
+                equal(&rt, entry, &(*key, *value));
             }
         }
     }
@@ -160,10 +161,14 @@ fn keys_with_one_prefix_are_walked(rt: HostRuntime) -> Result<(), Fail> {
         }
         found.push(entry.0 % 16)?;
     }
-    assert_eq!(rt; found.as_slice(), [7u64, 8, 9].as_slice());
-    assert_eq!(rt; children.first_from(2 << 32 | 8), Some(&(2 << 32 | 8, ())));
-    assert_eq!(rt; children.first_from(4 << 32), None);
-    assert_eq!(rt; children.remove(5), None);
-    assert_eq!(rt; children.len(), 9);
+    equal(&rt, found.as_slice(), [7u64, 8, 9].as_slice());
+    equal(
+        &rt,
+        children.first_from(2 << 32 | 8),
+        Some(&(2 << 32 | 8, ())),
+    );
+    equal(&rt, children.first_from(4 << 32), None);
+    equal(&rt, children.remove(5), None);
+    equal(&rt, children.len(), 9);
     Ok(())
 }
