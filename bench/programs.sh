@@ -6,10 +6,10 @@ set -e
 here=$(cd "$(dirname "$0")" && pwd)
 work=${1:-$(mktemp -d)}
 mkdir -p "$work"
-"$here/../mkdemux" --version > /dev/null
+. "$here/program.sh"
 for peer in match_peer dump_peer capture_peer text_peer; do
     cc -O2 -o "$work/$peer" "$here/$peer.c" -lpcap
 done
 cc -O2 -o "$work/programs" "$here/programs.c"
 [ -f "$work/comment.asm" ] || python3 "$here/inputs.py" "$work"
-python3 "$here/programs.py" "$here/../crates/mkdemux/out/mkdemux" "$work"
+python3 "$here/programs.py" "$program" "$work"

@@ -1,10 +1,11 @@
 #!/bin/sh
 # Runs scripts by `mkdemux run`, again and again, and each trace again by `mkdemux sim`, which must print the same lines but for those of
-# packets that were left. Usage: bench/repeat.sh [RUNS], by default 1,000 of each script. It needs the built program.
+# packets that were left. Usage: bench/repeat.sh [RUNS], by default 1,000 of each script.
 unset CDPATH
 cd "$(dirname "$0")/.." || exit 2
 runs=${1:-1000}
-program=crates/mkdemux/out/mkdemux
+here=bench
+. bench/program.sh
 work=$(mktemp -d) || exit 2
 trap 'rm -rf "$work"' EXIT
 cat > "$work/two.script" <<END

@@ -6,6 +6,6 @@ set -e
 here=$(cd "$(dirname "$0")" && pwd)
 work=${1:-$(mktemp -d)}
 mkdir -p "$work"
-"$here/../mkdemux" --version > /dev/null
+. "$here/program.sh"
 cc -O2 -o "$work/programs" "$here/programs.c"
-python3 "$here/sim.py" "$here/../crates/mkdemux/out/mkdemux" "$work"
+python3 "$here/sim.py" "$program" "$work"

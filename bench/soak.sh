@@ -16,11 +16,7 @@ work=${1:-$(mktemp -d)}
 build_program "$work" soak ' may_wait=3: seq bpf_insn pcap_reader endpoint_caps filter_table monitor_messages rx_queue table_replica world_events world_model world_core core_loop core_join core_boot core_drive core_threads'
 "$work/crates/soak_bench/out/soak_bench" "${2:-10000}" "${3:-1}" | tee "$work/soak.txt"
 grep -q ' 0 runs went wrong$' "$work/soak.txt"
-if [ -x "$here/../crates/mkdemux/out/mkdemux" ]; then
-    "$here/repeat.sh" 1000
-else
-    echo "soak: no trace is done again by sim, since the program isn't built" >&2
-fi
+"$here/repeat.sh" 1000
 if [ -f /usr/include/pcap.h ]; then
     "$here/predecode.sh" --compare "$work"
 else

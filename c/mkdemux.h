@@ -128,8 +128,8 @@ enum {
     MKDEMUX_MOST_INTERFACES = 65536  /* of a section of pcapng: a room of so many is always enough */
 };
 
-/* How far a capture has been read: all zeros before its first byte. It is plain data and may be copied. Only mkdemux_next
- * writes to it. */
+/* How far a capture has been read: all zeros before its first byte. It is plain data and may be copied. Only
+ * mkdemux_next writes to it. */
 struct mkdemux_capture {
     uint64_t offset;     /* bytes before the next record or block */
     uint64_t sections;   /* of pcapng: sections that have begun */
@@ -183,7 +183,7 @@ enum mkdemux_next_answer {
 
 /* ---- The proved functions ----
  *
- * A caller owes all of them the following. Nothing checks it:
+ * All of them require this of the caller. Nothing checks it:
  * - An array with a `count` has so many values. If the count is 0, the array may be NULL, and is never looked at. If
  *   the count isn't 0, the behaviour for NULL is undefined. No array has more than PTRDIFF_MAX bytes.
  * - Arrays are aligned for their type: to 4 bytes for instructions and places, to 1 for packets and texts.
@@ -205,8 +205,8 @@ uint32_t mkdemux_verify(const struct mkdemux_insn *code, size_t count,
     struct mkdemux_place *place, uint32_t *path, size_t room);
 
 /* Runs a program over the captured bytes of a packet whose original length is `original`.
- * OWED: mkdemux_verify answered 0 for exactly these instructions; so count is from 1 to 4,096. For any other program
- * the behaviour is undefined.
+ * REQUIRED: mkdemux_verify answered 0 for exactly these instructions; so count is from 1 to 4,096. For any other
+ * program the behaviour is undefined.
  * Proved: it ends within `count` instructions, with the one verdict that the machine's definition gives.
  * Takes no memory. A packet of 0 bytes may be NULL. `original` may be any number. */
 struct mkdemux_ending mkdemux_run(const struct mkdemux_insn *code, size_t count,
@@ -223,14 +223,14 @@ struct mkdemux_cell {
 };
 
 /* Makes the cells of a program.
- * OWED: mkdemux_verify answered 0 for exactly these instructions, and both counts are equal.
- * Proved: for DONE, the cells stand for exactly these instructions. For NO_MEMORY no cell was written. For NOT_QUICKER they
- * are not to be run: mkdemux_verdict is as quick. Takes memory. */
+ * REQUIRED: mkdemux_verify answered 0 for exactly these instructions, and both counts are equal.
+ * Proved: for DONE, the cells stand for exactly these instructions. For NO_MEMORY no cell was written. For
+ * NOT_QUICKER they are not to be run: mkdemux_verdict is as quick. Takes memory. */
 enum mkdemux_predecode_answer { MKDEMUX_NOT_QUICKER = 1 /* or MKDEMUX_DONE or MKDEMUX_NO_MEMORY */ };
 uint32_t mkdemux_predecode(const struct mkdemux_insn *code, size_t count, struct mkdemux_cell *cells, size_t cell_count);
 
 /* The verdict that mkdemux_verdict gives, by cells.
- * OWED: mkdemux_predecode answered DONE for exactly these cells.
+ * REQUIRED: mkdemux_predecode answered DONE for exactly these cells.
  * Proved: as for mkdemux_verdict, of the instructions that the cells stand for. Takes no memory. */
 uint32_t mkdemux_cells_verdict(const uint8_t *packet, size_t captured, uint32_t original, const struct mkdemux_cell *cells,
     size_t count);
@@ -253,12 +253,13 @@ struct mkdemux_assembly mkdemux_assemble(const char *text, size_t length, struct
  * memory. */
 struct mkdemux_writing mkdemux_write_ddd(const struct mkdemux_insn *code, size_t count, char *text, size_t room);
 
-/* Takes the next header, record or block off the front of a capture: a pcap savefile (version 2.4), or pcapng, which its
- * first four bytes tell. `bytes` are those from `capture->offset` on, cut anywhere. A packet lies in them, where `item` says;
- * the caller goes on after `item->taken` bytes. For MKDEMUX_MORE it calls again once more bytes are behind the same ones;
- * for MKDEMUX_NO_ROOM with the same bytes, and the same interfaces in more room. `interfaces` belongs to the capture: the
- * caller may read the first `capture->interfaces` of them. For all answers but PASSED and PACKET nothing was taken or
- * changed. A capture ends where its bytes end: mkdemux_capture_cut says whether it is whole.
+/* Takes the next header, record or block off the front of a capture: a pcap savefile (version 2.4), or pcapng, which
+ * its first four bytes tell. `bytes` are those from `capture->offset` on, cut anywhere. A packet lies in them, where
+ * `item` says; the caller goes on after `item->taken` bytes. For MKDEMUX_MORE it calls again with the same bytes and
+ * more after them; for MKDEMUX_NO_ROOM with the same bytes, and the same interfaces in more room. `interfaces`
+ * belongs to the capture: the caller may read the first `capture->interfaces` of them. For all answers but PASSED and
+ * PACKET nothing was taken or changed. A capture ends where its bytes end: mkdemux_capture_cut says whether it is
+ * whole.
  * Proved: of pcapng each answer is what the format says of the bytes at their place, after the sections and interfaces
  * before; of a savefile each record is taken as it is. `capture` and `interfaces` may hold any numbers.
  * Takes memory for the header of a savefile alone, and gives it back. */
@@ -276,8 +277,8 @@ typedef struct mkdemux_program {
 
 /* Copies and verifies `count` records of eight bytes at `code` (struct bpf_insn, struct sock_filter or struct
  * mkdemux_insn, at any address; `code` may be NULL if the count is 0). The answer is NULL if the program is refused;
- * `rule` and `place`, each of which may be NULL, say why. Only the copy is run: the caller may free its own array. It takes 72
- * bytes for each instruction. Any number of threads may filter by one program at the same time. */
+ * `rule` and `place`, each of which may be NULL, say why. Only the copy is run: the caller may free its own array. It
+ * takes 72 bytes for each instruction. Any number of threads may filter by one program at the same time. */
 MKDEMUX_CALL const mkdemux_program *mkdemux_open(const void *code, size_t count, uint32_t *rule, struct mkdemux_place *place)
 {
     struct mkdemux_place where = {0, 0, 0};

@@ -1,8 +1,7 @@
 #!/bin/sh
 # Installs what dist/ has under a prefix: the program, the manual page, the completions for bash, zsh and fish, the C libraries with
-# their headers, pkg-config files and CMake package where dist/ has them, and the pages of docs/ and the files of examples/ that they
-# name. Of both C libraries it makes libmkdemux.so, where there is a C compiler (CC, by default cc). It builds nothing else, and needs
-# no kit.
+# their headers, pkg-config files and CMake package where dist/ has them, all pages, and examples/. Of both C libraries it makes
+# libmkdemux.so, where there is a C compiler (CC, by default cc). It builds nothing else, and needs no kit.
 #
 #   dist/install.sh [PREFIX]               PREFIX is ~/.local, if none is given
 #   dist/install.sh --uninstall [PREFIX]   removes the files that it would install there, and the folders that are empty then
@@ -106,7 +105,7 @@ $list
 LIST
 }
 
-# Makes one shared library of both archives, and the words for pkg-config to link it. It has the calls of both headers as functions, and
+# Makes one shared library of both archives, and a pkg-config file to link it. It has the calls of both headers as functions, and
 # no other name.
 make_shared() {
     work=$(mktemp -d) || exit 1
@@ -126,7 +125,7 @@ Cflags: -I\${prefix}/include
 PC
 }
 
-# The shared library, its name for a linker, and its words for pkg-config.
+# The shared library, its name for a linker, and its pkg-config file.
 share() {
     if [ $act = put ]; then
         if [ ! -f lib/libmkdemux.a ] || [ ! -f lib/libmkdemux_cores.a ]; then
@@ -158,7 +157,11 @@ each_of include '*.h'
 each_of lib '*.a'
 each_of lib '*.pc'
 share
+for page in README.md CHANGELOG.md bench/README.md rows/README.md; do
+    $act 644 "../$page" "share/doc/mkdemux/$page"
+done
 each_of ../docs '*.md' share/doc/mkdemux/docs
+each_of ../docs '*.svg' share/doc/mkdemux/docs
 each_of ../examples '*' share/doc/mkdemux/examples
 [ $act = put ] || exit 0
 case :$PATH: in

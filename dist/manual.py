@@ -17,7 +17,7 @@ import textwrap
 
 TOP = pathlib.Path(__file__).resolve().parent.parent
 SHARE = TOP / "dist" / "share"
-DATE = "2026-11-28"
+DATE = "2026-11-30"
 PAGE = "man/man1/mkdemux.1"
 BASH = "bash-completion/completions/mkdemux"
 ZSH = "zsh/site-functions/_mkdemux"
@@ -211,7 +211,8 @@ def page_of(top, helps, version):
             ("share/" + BASH, "completions for bash"),
             ("share/" + ZSH, "completions for zsh"),
             ("share/" + FISH, "completions for fish"),
-            ("include, lib, lib/pkgconfig", "the C libraries, where they were installed"),
+            ("share/doc/mkdemux", "the pages and examples"),
+            ("include, lib, lib/pkgconfig, share/cmake/mkdemux", "the C libraries, where they were installed"),
         ]),
     ])
     lines += section("SEE ALSO", [".BR dot (1),", ".BR tcpdump (8),", ".BR pcap\\-filter (7),", ".BR pcap\\-savefile (5)"])

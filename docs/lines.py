@@ -2,8 +2,10 @@
 """Compares the lines of crates.txt with the crates that the files of each crate cite. A line names these and no others, since each name
 more makes the crate wait for another one's proof.
 
-And counts the ways through crates.txt, from each library down to each crate below it: `rt` up to kit 13b reads a crate once for each way
-that leads to it, so a crate put between two others can double the time of the gate. Programs and static libraries begin no way.
+And says which names stand before their own lines: crates.txt lists the crates from the base up.
+
+And counts the paths through crates.txt, from each library down to each crate below it: some versions of `rt` read a crate once for each
+path that leads to it, so a crate put between two others can double the time of the gate. Programs and static libraries begin no path.
 
   docs/lines.py          says which names a line lacks or needn't have; the last line is `N passed, M failed`
   docs/lines.py --write  writes crates.txt anew
@@ -15,7 +17,7 @@ import sys
 top = pathlib.Path(__file__).resolve().parent.parent
 RUST = re.compile(r"\b([a-z][a-z0-9_]*)::")
 MODULE = re.compile(r"^\s*(?:pub )?mod ([a-z][a-z0-9_]*)", re.MULTILINE)
-MOST_WAYS = 180_000
+MOST_PATHS = 180_000
 GHOST = re.compile(r"\bRattle\.([a-z][a-z0-9_]*)\.")
 
 
@@ -39,8 +41,8 @@ def lines():
         yield line, head if colon and not line.startswith("#") else None, names.split()
 
 
-def ways(below):
-    """How many ways begin at libraries, where these are the crates that each crate names."""
+def paths(below):
+    """How many paths begin at libraries, where these are the crates that each crate names."""
     known = {}
 
     def from_here(crate):
@@ -54,13 +56,18 @@ def ways(below):
 def main():
     repository = {head.split()[0] for _, head, _ in lines() if head}
     passed = failed = 0
-    written = []
+    written, listed = [], set()
     below = {head.split()[0]: [name for name in names if name in repository] for _, head, names in lines() if head and "staticlib" not in head}
     for line, head, names in lines():
         if head is None:
             written.append(line)
             continue
         crate = head.split()[0]
+        early = sorted((set(names) & repository) - listed)
+        listed.add(crate)
+        if early:
+            failed += 1
+            print(f"crates.txt, {crate}: names {early}, whose lines come later")
         found = cited(crate)
         lacking = sorted((found & repository) - {crate} - set(names))
         needless = [name for name in names if name not in found]
@@ -75,10 +82,10 @@ def main():
     elif sys.argv[1:]:
         sys.exit(__doc__)
     else:
-        count = ways(below)
-        print(f"crates.txt has {count:,} ways, and may have {MOST_WAYS:,}")
-        passed += count <= MOST_WAYS
-        failed += count > MOST_WAYS
+        count = paths(below)
+        print(f"crates.txt has {count:,} paths, and may have {MOST_PATHS:,}")
+        passed += count <= MOST_PATHS
+        failed += count > MOST_PATHS
         print(f"{passed} passed, {failed} failed")
         sys.exit(failed > 0)
 

@@ -18,10 +18,10 @@
  * until it answers MKDEMUX_CORE_IDLE, and mkdemux_ask_.. for the requests of clients. docs/c-library.md has
  * a short program, and c/live.c a complete one.
  *
- * WHAT THE CALLER OWES all calls. Nothing checks it.
- * - A mkdemux_core is {NULL}, which is a closed core, or was filled by mkdemux_boot or mkdemux_boot_limits.
- *   Nothing else writes to it. While it is open it isn't copied, but passed by its address, as a FILE is. (It may be moved: the
- *   old copy is never used again.)
+ * WHAT ALL CALLS REQUIRE of the caller. Nothing checks it.
+ * - A mkdemux_core is {NULL}, which is a closed core, or was filled by mkdemux_boot or mkdemux_boot_limits. Nothing
+ *   else writes to it. While it is open it isn't copied, but passed by its address, as a FILE is. (It may be moved:
+ *   the old copy is never used again.)
  * - There is one call at a time on a core. A core may go from thread to thread, if the first thread's calls
  *   on it happen before the second's: by a lock, by the start or the join of a thread, or by an atomic.
  *   Calls on different cores may run at the same time, also on cores of one machine.
@@ -39,19 +39,18 @@
  * value is as the call before left it. A closed core, an impossible count of cores, a program that is too
  * long and running out of memory are answers.
  *
- * PROGRESS. If one caller holds all cores, mkdemux_settle ends with every request decided; that is proved. If
- * threads turn them, this is proved: after more rounds than the work ahead, in each of which every core is turned
- * at least once, in any order, and none lacks memory, all are decided, if between rounds each core sees
- * what was sent to it. It is enough to turn each core after it was asked, after another's turn named it, and after a
- * turn of its own with `more`: where no core is left to turn so, all are decided. Core 0 takes the requests of all
- * cores in turn. NOT PROVED: that a thread runs, that one
- * thread sees what another wrote, and time. A core that nobody turns holds up every change of the machine;
- * packets are still received.
+ * PROGRESS. If one caller holds all cores, mkdemux_settle ends with every request decided; that is proved. If threads
+ * turn them, it is proved that all requests are decided after enough rounds, if in each round every core is turned at
+ * least once, none lacks memory, and each core sees what was sent to it before. It is enough to turn each core after
+ * it was asked, after another's turn named it, and after a turn of its own with `more`: where no core is left to turn
+ * so, all are decided. Core 0 takes the requests of all cores in turn. NOT PROVED: that a thread runs, that one
+ * thread sees what another wrote, and time. A core that nobody turns holds up every change of the machine; packets
+ * are still received.
  *
  * MEMORY is taken by malloc and realloc and given back by free. mkdemux_boot, mkdemux_boot_limits, mkdemux_turn,
- * mkdemux_settle and mkdemux_ask_.. take memory, and so does mkdemux_receive for the first packet after a change of the table.
- * mkdemux_version, mkdemux_unanswered and mkdemux_close take none. How much a core holds depends on its
- * table and on the requests that it hasn't begun, and not on the number of packets or changes so far. */
+ * mkdemux_settle and mkdemux_ask_.. take memory, and so do mkdemux_receive and mkdemux_receive_burst for the first
+ * packet after a change of the table. All other calls take none. How much a core holds depends on its table and on
+ * the requests that it hasn't begun, and not on the number of packets or changes so far. */
 #ifndef MKDEMUX_CORES_H
 #define MKDEMUX_CORES_H
 
@@ -88,9 +87,8 @@ typedef struct mkdemux_core {
     void *at; /* for the library alone */
 } mkdemux_core;
 
-/* The first three after MOST_INSNS are the limits of a machine that mkdemux_boot opens; one that is given its
- * limits, by mkdemux_boot_limits, has at most 64 cores, and gives one packet to as many endpoints as it has
- * capabilities at most. */
+/* MOST_CAPS, MOST_FILTERS and MOST_ENDPOINTS hold for machines that mkdemux_boot opens. One that is given its limits,
+ * by mkdemux_boot_limits, has at most 64 cores, and gives a packet to at most as many endpoints as `caps` allows. */
 enum {
     MKDEMUX_CORE_MOST_CORES = 8,
     MKDEMUX_CORE_MOST_CORES_WITH_LIMITS = 64,
@@ -98,7 +96,7 @@ enum {
     MKDEMUX_CORE_MOST_INSNS = 4096,     /* of one program */
     MKDEMUX_CORE_MOST_CAPS = 1024,      /* that are held at a time */
     MKDEMUX_CORE_MOST_FILTERS = 1024,   /* that are listed at a time */
-    MKDEMUX_CORE_MOST_ENDPOINTS = 1024  /* that get one packet: a room of so many is always enough */
+    MKDEMUX_CORE_MOST_ENDPOINTS = 1024  /* that get one packet: there a room of so many is enough */
 };
 
 /* The answers of calls. After any answer but OK each core is as it was, except that a turn may have moved
@@ -164,9 +162,9 @@ MKDEMUX_CALL uint32_t mkdemux_boot_limits(const struct mkdemux_limits *limits, c
                                      budgets, count, cores, count);
 }
 
-/* Closes a core, and frees all its memory. In C and C++ it has the shorter name mkdemux_close, too. Does nothing for a closed core. The other cores of its machine
- * may be closed in any order, and still receive; but they make no change without this one. A request that
- * core 0 refuses is still answered while core 0 is open. */
+/* Closes a core, and frees all its memory. In C and C++ it has the shorter name mkdemux_close, too. Does nothing for
+ * a closed core. The other cores of its machine may be closed in any order, and still receive; but they make no
+ * change without this one. A request that core 0 refuses is still answered while core 0 is open. */
 void mkdemux_close_core(mkdemux_core *core);
 
 /* ---- Turns ---- */
@@ -226,11 +224,11 @@ typedef struct mkdemux_turned {
     uint32_t more;     /* 1: a further turn of this core may do something by itself. 0: it can't */
 } mkdemux_turned;
 
-/* Does at most one thing: takes a message from another core, or else begins the core's next request.
- * Each turn, even one that answers IDLE, also passes on the messages that the core has to send and fetches
- * those sent to it, a long message in parts. So all cores may answer IDLE, more than once, while a request
- * is open. A core has to be turned after it was asked, after `woken` of another core's turn named it, and
- * after a turn of its own with `more`; otherwise its thread may sleep. Who turns cores in a loop needs neither.
+/* Does at most one thing: takes a message from another core, or else begins the core's next request. Each turn, even
+ * one that answers IDLE, also passes on the messages that the core has to send and fetches those sent to it, a long
+ * message in parts. So all cores may answer IDLE, more than once, while a request is open. A core has to be turned
+ * after it was asked, after `woken` of another core's turn named it, and after a turn of its own with `more`;
+ * otherwise its thread may sleep. A thread that turns its core in a loop needs neither.
  * OK: `turned` says what it did. The n-th DECISION of a core is on its n-th request. IDLE: no message was
  * complete, and no request could begin. NO_MEMORY: nothing was done; a later turn may do it. STOPPED,
  * SPENT: nothing was done, nor will a later turn do anything.
@@ -250,11 +248,11 @@ uint32_t mkdemux_turn(mkdemux_core *core, mkdemux_turned *turned);
  * the call's own list of the cores. All that was done is kept, and another call goes on from there.
  * CLOSED: one of the cores is closed. NOT_MACHINE: there are none, or a core is missing, there twice, in another
  * place or of a machine with another count of cores. Nothing has changed.
- * OWED: two cores of different machines that have equal counts can't be told apart: the cores were opened by one
- * call of mkdemux_boot. No other call on any of them runs meanwhile.
- * Proved: all of this, and that it takes at most so many rounds, each of one turn of every core, as core_settle's
- * work ahead says. With OK the n-th decision of each core is on its n-th request. Decisions aren't reported; the
- * versions and mkdemux_unanswered show them. Takes memory. */
+ * REQUIRED: the cores were opened by one call of mkdemux_boot or mkdemux_boot_limits, since two cores of different
+ * machines that have equal counts can't be told apart. No other call on any of them runs meanwhile.
+ * Proved: all of this, and that it ends after at most one round more than the work ahead
+ * (crates/core_settle/specs/Ahead.antt); in a round each core takes one turn. With OK the n-th decision of each core is
+ * on its n-th request. Decisions aren't reported; the versions and mkdemux_unanswered show them. Takes memory. */
 uint32_t mkdemux_settle(mkdemux_core *cores, size_t count);
 
 /* The version of the core's table: how many changes it has. 0 for a closed core. */
@@ -342,7 +340,7 @@ struct mkdemux_packet {
     uint32_t original; /* its original length */
 };
 
-/* mkdemux_receive_burst calls this, with the length of each array. OWED: `places` isn't less than `count`; only so
+/* mkdemux_receive_burst calls this, with the length of each array. REQUIRED: `places` isn't less than `count`; only so
  * many of the counts are used as there are packets. */
 uint32_t mkdemux_receive_packets(mkdemux_core *core, const struct mkdemux_packet *packets, size_t count,
     struct mkdemux_kept *room, size_t size, size_t *counts, size_t places, size_t *done);
