@@ -141,5 +141,7 @@ int main(int argc, char **argv)
     free(input.interfaces);
     free(input.bytes);
     fclose(input.file);
+    if (fflush(stdout))
+        return fault("the output can't be written");
     return status;
 }

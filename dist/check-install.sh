@@ -30,7 +30,7 @@ runs() {
 
 # Each file of dist/share is there, as it is here, and so is each page, with its pictures.
 has_pages() {
-    for page in README.md CHANGELOG.md bench/README.md rows/README.md docs/map.md docs/pictures/home.svg; do
+    for page in README.md CHANGELOG.md bench/README.md rows/README.md c/live.c docs/map.md docs/pictures/home.svg; do
         cmp "$top/$page" "$made/prefix/share/doc/mkdemux/$page" || return 1
     done
     (cd "$top/dist/share" && find . -type f) | while read -r file; do

@@ -4,7 +4,7 @@
 # libmkdemux.so, where there is a C compiler (CC, by default cc). It builds nothing else, and needs no kit.
 #
 #   dist/install.sh [PREFIX]               PREFIX is ~/.local, if none is given
-#   dist/install.sh --uninstall [PREFIX]   removes the files that it would install there, and the folders that are empty then
+#   dist/install.sh --uninstall [PREFIX]   removes the files that it would install there, and the folders below PREFIX that are empty then
 #
 # With DESTDIR in the environment all files are written below that folder, for a package: nothing in them names it.
 # A line for each file says where it is now. It replaces files of these names, and touches no other.
@@ -35,6 +35,7 @@ esac
 case ${1-} in
 -*) refuse "$usage" ;;
 esac
+[ $# -eq 0 ] || [ -n "$1" ] || refuse "PREFIX is empty"
 [ -n "${1-}" ] || [ -n "${HOME-}" ] || refuse "there is no HOME; give a PREFIX"
 
 # The folder of this file, which symbolic links may lead to.
@@ -53,6 +54,7 @@ if [ -n "${DESTDIR-}" ]; then
     /*) ;;
     *) refuse "with DESTDIR, PREFIX is an absolute path" ;;
     esac
+    [ $act = put ] || [ -d "$DESTDIR" ] || exit 0
     mkdir -p "$DESTDIR" && root=$(cd "$DESTDIR" && pwd) || exit 1
 else
     root=
@@ -79,10 +81,11 @@ find_program() {
 
 # MODE FILE PLACE: puts a file there. It is written beside its place and then moved, so a program that runs is not disturbed.
 put() {
-    place=$prefix/$3
-    mkdir -p "$root${place%/*}" && cp "$2" "$root$place.new" && chmod "$1" "$root$place.new" && mv -f "$root$place.new" "$root$place" ||
-        refuse "can't write $root$place"
-    say "$root$place"
+    place=$root$prefix/$3
+    beside=${place%/*}/.mkdemux.$$
+    [ ! -d "$place" ] || refuse "can't write $place: it is a folder"
+    mkdir -p "${place%/*}" && cp "$2" "$beside" && chmod "$1" "$beside" && mv -f "$beside" "$place" || refuse "can't write $place"
+    say "$place"
 }
 
 # MODE FILE PLACE: removes the file that is there, and its folders as far as they are empty.
@@ -94,12 +97,15 @@ take() {
     (cd "$root$prefix" && rmdir -p "${3%/*}" 2> /dev/null) || true
 }
 
-# FOLDER PATTERN [PLACE]: each file below a folder whose name fits, at the same place under the prefix, or under this one.
+# FOLDER PATTERN [PLACE]: each file below a folder whose name fits, at the same place under the prefix, or under this one. Scripts may be
+# run there, too.
 each_of() {
     [ -d "$1" ] || return 0
     list=$(cd "$1" && find . -type f -name "$2" | sed 's|^\./||' | LC_ALL=C sort)
     while read -r file; do
-        [ -z "$file" ] || $act 644 "$1/$file" "${3:-$1}/$file"
+        mode=644
+        [ ! -x "$1/$file" ] || mode=755
+        [ -z "$file" ] || $act $mode "$1/$file" "${3:-$1}/$file"
     done <<LIST
 $list
 LIST
@@ -131,7 +137,8 @@ share() {
         if [ ! -f lib/libmkdemux.a ] || [ ! -f lib/libmkdemux_cores.a ]; then
             return
         fi
-        command -v "${CC:-cc}" > /dev/null || {
+        set -- ${CC:-cc}
+        command -v "$1" > /dev/null || {
             say "there is no C compiler, so no libmkdemux.so is made"
             return
         }
@@ -141,6 +148,7 @@ share() {
     $act 644 "${work-}/mkdemux-shared.pc" lib/pkgconfig/mkdemux-shared.pc
     link=$root$prefix/lib/libmkdemux.so
     if [ $act = put ]; then
+        [ -h "$link" ] || [ ! -d "$link" ] || refuse "can't write $link: it is a folder"
         ln -sfn libmkdemux.so.0 "$link" || refuse "can't write $link"
         say "$link"
     elif [ -h "$link" ]; then
@@ -157,7 +165,7 @@ each_of include '*.h'
 each_of lib '*.a'
 each_of lib '*.pc'
 share
-for page in README.md CHANGELOG.md bench/README.md rows/README.md; do
+for page in README.md CHANGELOG.md bench/README.md rows/README.md c/live.c c/pcapgrep.c; do
     $act 644 "../$page" "share/doc/mkdemux/$page"
 done
 each_of ../docs '*.md' share/doc/mkdemux/docs
@@ -170,7 +178,7 @@ case :$PATH: in
 esac
 case $prefix in
 /usr | /usr/local) ;;
-*) say "for zsh, before compinit in ~/.zshrc: fpath=($prefix/share/zsh/site-functions \$fpath)" ;;
+*) say "for zsh, before compinit in ~/.zshrc: fpath=(\"$prefix/share/zsh/site-functions\" \$fpath)" ;;
 esac
 for name in mkdemux mkdemux_cores; do
     [ -f "lib/lib$name.a" ] || say "there is no lib$name.a in dist/; docs/c-library.md says how to build it, with the Rattle kit"

@@ -194,6 +194,13 @@ unread() {
     count unread $?
 }
 
+# A standard input that is closed is reported, and no FILE stands in its place.
+closed_input() {
+    ../mkdemux sim two-phase.script <&- > "$made/printed" 2> "$made/said"
+    [ $? -eq 3 ] && [ ! -s "$made/printed" ] && [ "$(cat "$made/said")" = "mkdemux: standard input can't be read" ]
+    count closed-input $?
+}
+
 # An output that takes no byte is reported.
 full() {
     ../mkdemux dump < two.pcap > /dev/full 2> "$made/said"
@@ -209,6 +216,7 @@ not_utf8
 conflicts
 count conflicts $?
 unread
+closed_input
 words
 
 # The commands of each page, with what the page says that they print.

@@ -92,7 +92,8 @@ Why is this packet ARP?
     4294967295 3
 
 Exit status: 0 done; 1 a refused CODE or input, whose line is on standard output; 2 a fault of the command line; 3 out of
-memory or a device that failed, with one line on standard error; 4 with --quiet, where no packet was accepted.
+memory, a FILE that can't be opened or a device that failed, with one line on standard error; 4 with --quiet, where no
+packet was accepted.
 
 docs/messages.md has the meaning and the cure of each word that is printed:
   after `code`     BadNumber CountMismatch TooLong
@@ -102,7 +103,7 @@ docs/messages.md has the meaning and the cure of each word that is printed:
                    TooLong TooManyInterfaces Truncated TruncatedHeader TruncatedRecord";
 
 pub(crate) const CODE_HELP: &str =
-    "The filter in decimal text: the number of instructions, then CODE JT JF K for each, parted by commas or newlines";
+    "The filter in decimal text: the number of instructions, then CODE JT JF K for each, separated by commas or newlines";
 
 pub(crate) const PCAP_HELP: &str = "Read a capture in place of hexadecimal lines";
 
@@ -222,8 +223,8 @@ Draw it:
 
     $ mkdemux check --graph < arp.asm | dot -Tsvg > arp.svg
 
-Exit status: 0 done; 1 a refused text, whose line is on standard output; 2 a fault of the command line; 3 out of memory or
-a device that failed, with one line on standard error.
+Exit status: 0 done; 1 a refused text, whose line is on standard output; 2 a fault of the command line; 3 out of memory, a
+FILE that can't be opened or a device that failed, with one line on standard error.
 
 docs/messages.md has the meaning and the cure of each word that is printed:
   after `line N:`  Backward Mnemonic NoLabel Number Operand TooFar TooLong TwiceLabel
@@ -257,8 +258,8 @@ Example: the packets of a capture as lines for `match`
 
     $ mkdemux dump < packets.pcap | sed -n 's/.* original [0-9]* //p' | sed 's/^-$//' > packets.hex
 
-Exit status: 0 done; 1 a refused capture, whose line is on standard output; 2 a fault of the command line; 3 out of memory
-or a device that failed, with one line on standard error.
+Exit status: 0 done; 1 a refused capture, whose line is on standard output; 2 a fault of the command line; 3 out of
+memory, a FILE that can't be opened or a device that failed, with one line on standard error.
 
 docs/messages.md has the meaning and the cure of each word that is printed:
   after `fault`  BadByteOrder BadCaptured BadLength BadMagic BadVersion InputTooLong LengthNotRepeated NoInterface
@@ -431,8 +432,8 @@ Example: a picture of two-phase commit
 
     $ mkdemux sim < examples/two-phase.script | mkdemux draw > two-phase.svg
 
-Exit status: 0 done; 1 a refused trace, whose line is on standard output; 2 a fault of the command line; 3 out of memory or
-a device that failed, with one line on standard error.
+Exit status: 0 done; 1 a refused trace, whose line is on standard output; 2 a fault of the command line; 3 out of memory, a
+FILE that can't be opened or a device that failed, with one line on standard error.
 
 docs/messages.md has the meaning and the cure of each word that is printed:
   after `line N:`  BadLine

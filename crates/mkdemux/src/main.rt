@@ -28,7 +28,7 @@ use hints::hint;
 use progress::Progress;
 use run_engine::RunFailure;
 use std::fs::File;
-use std::io::{self, IsTerminal};
+use std::io::{self, IsTerminal, Read, Stdin};
 use std::process::ExitCode;
 use std::sync::Wait;
 use std::thread::Threads;
@@ -42,6 +42,9 @@ const USAGE: u8 = 2;
 
 /// The exit status for memory, a file that can't be opened, a device, or a run that halted.
 const FAILED: u8 = 3;
+
+/// The number by which Linux says that a descriptor isn't open: EBADF.
+const NOT_OPEN: i32 = 9;
 
 fn main(rt: HostRuntime) -> ExitCode {
     ExitCode::from(status(&rt, &rt))
@@ -76,15 +79,27 @@ fn without_flag(words: &[String]) -> &[String] {
     words
 }
 
-/// Opens the captures of a request in order, and its input, then performs it.
+/// Opens the captures of a request in order, and its input, then performs it. Where standard input is the input, it is open: else the
+/// first capture would take its place.
 fn answer<T: Threads + Wait + Clock + Sync>(
     rt: &HostRuntime,
     threads: &T,
     invocation: &Invocation,
 ) -> u8 {
+    if invocation.input.is_none() && is_closed(rt.stdin()) {
+        return failed(rt, "standard input can't be read");
+    }
     match open_files(rt, invocation.request.captures()) {
         Ok(files) => answer_on(rt, threads, invocation, files),
         Err(fault) => not_opened(rt, fault),
+    }
+}
+
+/// Whether standard input isn't open. It reads no byte.
+fn is_closed(mut stdin: Stdin) -> bool {
+    match stdin.read(&mut []) {
+        Ok(_) => false,
+        Err(error) => error.raw_os_error() == Some(NOT_OPEN),
     }
 }
 
