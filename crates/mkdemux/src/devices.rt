@@ -6,6 +6,9 @@ use std::io::{self, ErrorKind, Read, Stdin, Stdout, Write};
 /// How many bytes of its front an input keeps.
 const FRONT: usize = 4;
 
+/// What to say where standard input could not be read.
+pub const NOT_READ: &str = "standard input can't be read";
+
 /// Where an input is.
 #[derive(Drop)]
 enum Place {
@@ -45,11 +48,11 @@ impl FileInput {
         }
     }
 
-    /// What to say where standard input could not be read.
+    /// What to say where it is standard input and could not be read, by why.
     pub fn complaint(&self) -> &'static str {
         match self.fault {
             Some(ErrorKind::IsADirectory) => "standard input is a directory",
-            Some(_) => "standard input can't be read",
+            Some(_) => NOT_READ,
             None => "an input can't be read",
         }
     }

@@ -22,7 +22,7 @@ use commands::{most_reads, perform};
 use console::LinkTypes;
 use core_loop::Cause;
 use core_threads::{Free, Halt};
-use devices::{FileInput, Output};
+use devices::{FileInput, NOT_READ, Output};
 use engine_io::{EngineFault, INPUT_READS, Sink, Source};
 use hints::hint;
 use progress::Progress;
@@ -87,7 +87,7 @@ fn answer<T: Threads + Wait + Clock + Sync>(
     invocation: &Invocation,
 ) -> u8 {
     if invocation.input.is_none() && is_closed(rt.stdin()) {
-        return failed(rt, "standard input can't be read");
+        return failed(rt, NOT_READ);
     }
     match open_files(rt, invocation.request.captures()) {
         Ok(files) => answer_on(rt, threads, invocation, files),
