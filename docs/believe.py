@@ -94,7 +94,7 @@ ROWS = {
     "filter_table": 280,
     "definitions_tried": 350,
     "monitor_messages": 220,
-    "monitor_2pc": 260,
+    "two_phase": 260,
     "rx_queue": 30,
     "ump_ring": 150,
     "world_channels": 140,

@@ -4,9 +4,6 @@ more makes the crate wait for another one's proof.
 
 And says which names stand before their own lines: crates.txt lists the crates from the base up.
 
-And counts the paths through crates.txt, from each library down to each crate below it: some versions of `rt` read a crate once for each
-path that leads to it, so a crate put between two others can double the time of the gate. Programs and static libraries begin no path.
-
   docs/lines.py          says which names a line lacks or needn't have; the last line is `N passed, M failed`
   docs/lines.py --write  writes crates.txt anew
 """
@@ -17,7 +14,6 @@ import sys
 top = pathlib.Path(__file__).resolve().parent.parent
 RUST = re.compile(r"\b([a-z][a-z0-9_]*)::")
 MODULE = re.compile(r"^\s*(?:pub )?mod ([a-z][a-z0-9_]*)", re.MULTILINE)
-MOST_PATHS = 180_000
 GHOST = re.compile(r"\bRattle\.([a-z][a-z0-9_]*)\.")
 
 
@@ -41,23 +37,10 @@ def lines():
         yield line, head if colon and not line.startswith("#") else None, names.split()
 
 
-def paths(below):
-    """How many paths begin at libraries, where these are the crates that each crate names."""
-    known = {}
-
-    def from_here(crate):
-        if crate not in known:
-            known[crate] = 1 + sum(from_here(name) for name in below[crate])
-        return known[crate]
-
-    return sum(from_here(crate) for crate in below if (top / "crates" / crate / "src/lib.rt").exists())
-
-
 def main():
     repository = {head.split()[0] for _, head, _ in lines() if head}
     passed = failed = 0
     written, listed = [], set()
-    below = {head.split()[0]: [name for name in names if name in repository] for _, head, names in lines() if head and "staticlib" not in head}
     for line, head, names in lines():
         if head is None:
             written.append(line)
@@ -82,10 +65,6 @@ def main():
     elif sys.argv[1:]:
         sys.exit(__doc__)
     else:
-        count = paths(below)
-        print(f"crates.txt has {count:,} paths, and may have {MOST_PATHS:,}")
-        passed += count <= MOST_PATHS
-        failed += count > MOST_PATHS
         print(f"{passed} passed, {failed} failed")
         sys.exit(failed > 0)
 

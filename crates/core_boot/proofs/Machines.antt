@@ -19,7 +19,7 @@ use Rattle.core_boot.specs.Booted.{IsBooted, AreBooted, HasDoneNothing}
 use Rattle.core_boot.specs.Booting.{ComesUp, HaveComeUp, HaveRequests, AreGivable, AreShortLanes, IsMachineOf}
 use Rattle.core_boot.specs.Lanes.{items_for, AreLanes}
 use Rattle.core_boot.specs.Wiring.{AreSilent, IsWiring}
-use Rattle.table_replica.proofs.Shared.{get_at}
+use Rattle.filter_table.proofs.Positions.{get_at}
 
 -- the requests of a core other than 0 are short
 short_for : (entry : ℕ) (requests : List (ℕ × Op)) → AreGivable requests → All HasShortProgram (items_for (suc entry) requests)

@@ -2,10 +2,10 @@
 
 ghost use Rattle.std.specs.Prelude.{◌≡◌, ◌<◌, ◌≤◌, ◌⊎◌, ◌↔◌, ℕ, All, List, length, Err, IfOk, OnOk, vec_capacity};
 ghost use Rattle.filter_table.specs.Limits.{TableLimits, default_limits};
-ghost use Rattle.monitor_2pc.specs.declared.most.TheConstants.{MOST_CORES};
+ghost use Rattle.two_phase.specs.declared.most.TheConstants.{MOST_CORES};
 ghost use Rattle.core_loop.specs.Cores.{AreShort};
 ghost use Rattle.core_join.specs.Machines.{IsMachine};
-ghost use Rattle.world_core.specs.declared.fault.BootFault.TheVariants.{CoreCount};
+ghost use Rattle.world_events.specs.declared.boot.BootFault.TheVariants.{CoreCount};
 ghost use Rattle.core_boot.specs.Booted.{AreBooted, HasDoneNothing};
 ghost use Rattle.core_boot.specs.Booting.{ComesUpLast, AddsCore, HaveComeUp, HaveRequests, AreGivable, AreShortLanes, IsMachineOf};
 ghost use Rattle.core_boot.specs.Wiring.{AreSilent};
@@ -19,7 +19,7 @@ use rx_queue::{Port, queue};
 use std::alloc::{AllocError, Global};
 use std::collections::VecDeque;
 use std::mem;
-use world_core::BootFault;
+use world_events::BootFault;
 
 /// The jobs that a core's queue holds.
 const QUEUE_JOBS: usize = 16;

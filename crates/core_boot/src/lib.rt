@@ -7,4 +7,4 @@ mod wiring;
 
 pub use booting::{boot_cores, boot_machine, boot_with_ports};
 pub use lanes::by_core;
-pub use world_core::BootFault;
+pub use world_events::BootFault;

@@ -1,7 +1,7 @@
 -- Cores that were looked at.
 use Rattle.std.proofs.Common.{◌≡◌, ◌++◌, ◌∙◌, ℕ, zero, suc, Some, List, [], ◌∷◌, length, slice_get, refl, sym, ap, subst, arith}
 use Rattle.std.proofs.lemmas.Option.{slice_get_within}
-use Rattle.table_replica.proofs.Shared.{get_at}
+use Rattle.filter_table.proofs.Positions.{get_at}
 use Rattle.world_histories.specs.Histories.{unstamped, OtherState}
 use Rattle.core_links.specs.RingSlots.{SameLinks}
 use Rattle.rx_queue.specs.Queue.{SameIntake}

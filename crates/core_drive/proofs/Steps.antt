@@ -4,7 +4,7 @@ use Rattle.std.specs.Prelude.{if◌then◌else◌}
 use Rattle.std.specs.List.{AllZip}
 use Rattle.std.proofs.lemmas.List.{append-nil}
 use Rattle.std.proofs.lemmas.Option.{slice_get_within}
-use Rattle.table_replica.proofs.Shared.{get_at}
+use Rattle.filter_table.proofs.Positions.{get_at}
 use Rattle.world_model.proofs.Lists.{same_or_not, get-set_same, get-set_other, length-slice_set}
 use Rattle.world_model.proofs.Submissions.{eq_self, eq_other}
 use Rattle.core_join.specs.Machines.{RingCore, IsMachine, AreSameCores}

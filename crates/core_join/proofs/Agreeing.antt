@@ -6,7 +6,7 @@ use Rattle.core_links.specs.Flows.{Flow, IsExact, IsLooked, LooksAt, ring_flow, 
 use Rattle.core_links.specs.RingSlots.{own_of, ring_view, AreJoinedLinks}
 use Rattle.core_links.specs.RingLaws.{SameLinks-itself}
 use Rattle.std.proofs.lemmas.Option.{slice_get_within}
-use Rattle.table_replica.proofs.Shared.{get_at}
+use Rattle.filter_table.proofs.Positions.{get_at}
 use Rattle.world_model.proofs.Lists.{same_or_not}
 use Rattle.core_loop.specs.Cores.{Stands}
 use Rattle.core_links.specs.Views.{LinkView, IsSameView}

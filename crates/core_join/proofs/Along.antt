@@ -2,7 +2,7 @@
 use Rattle.std.proofs.Common.{◌≡◌, ◌∙◌, ℕ, zero, suc, Some, List, [], ◌∷◌, length, slice_get, refl, sym, ap, subst, arith, rules}
 use mathlib.Core.Path.{fun_ext}
 use Rattle.std.proofs.lemmas.Option.{slice_get_within}
-use Rattle.table_replica.proofs.Shared.{get_at}
+use Rattle.filter_table.proofs.Positions.{get_at}
 use Rattle.world_histories.specs.Histories.{OtherState}
 use Rattle.rx_queue.specs.declared.intake.Intake.{Intake}
 use Rattle.rx_queue.specs.Queue.{SameIntake}

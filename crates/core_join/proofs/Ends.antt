@@ -6,7 +6,7 @@ use Rattle.filter_table.specs.declared.operation.Op.{Op}
 use Rattle.filter_table.specs.Tables.{TableState, table}
 use Rattle.table_replica.specs.Shown.{ReplicaState}
 use Rattle.filter_table.proofs.Tables.{table_limits, table_version}
-use Rattle.monitor_2pc.specs.Coordinators.{Idle}
+use Rattle.two_phase.specs.Coordinators.{Idle}
 use Rattle.core_links.specs.Views.{LinkView}
 use Rattle.core_links.specs.RingSlots.{ring_view}
 use Rattle.world_model.proofs.Lists.{get_map}
@@ -31,7 +31,7 @@ use Rattle.core_join.specs.Conclusions.{histories_of, views_of, StandsAt0, Stand
 use Rattle.core_join.proofs.Lists.{choose, same_some}
 use Rattle.core_join.proofs.Unstopped.{IsExactCore, stand_beside, all_run}
 use Rattle.std.proofs.lemmas.Option.{slice_get_within}
-use Rattle.table_replica.proofs.Shared.{get_at}
+use Rattle.filter_table.proofs.Positions.{get_at}
 
 -- The laws of histories
 

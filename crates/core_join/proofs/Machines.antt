@@ -8,7 +8,7 @@ use Rattle.core_loop.specs.Cores.{SameCore}
 use Rattle.core_join.specs.Machines.{RingCore, HasPlace, IsMachine, AreSameCores}
 use Rattle.std.proofs.lemmas.Option.{slice_get_within}
 use Rattle.filter_table.specs.Limits.{TableLimits}
-use Rattle.table_replica.proofs.Shared.{get_at}
+use Rattle.filter_table.proofs.Positions.{get_at}
 
 joined_slots : (a b c d : Option Link) → SameSlot a b → SameSlot c d → AreJoinedSlots a c → AreJoinedSlots b d
 joined_slots None b c d same other joined = absurd joined

@@ -12,7 +12,7 @@ use Rattle.world_histories.proofs.Merge.{one_run, run_of, first_of_core, rest_in
 use Rattle.core_join.specs.Merges.{ListsAll, ListsRuns, shown_histories, NoneLeft, IsLeast}
 use Rattle.core_join.proofs.Least.{shown_at}
 use Rattle.std.proofs.lemmas.Option.{slice_get_within}
-use Rattle.table_replica.proofs.Shared.{get_at}
+use Rattle.filter_table.proofs.Positions.{get_at}
 
 heads : (x y : Stamped) (xs ys : List Stamped) → x ∷ xs ≡ y ∷ ys → x ≡ y
 heads x y xs ys e = cc

@@ -3,11 +3,11 @@ use Rattle.std.proofs.Common.{◌≡◌, ◌≢◌, ◌+◌, ◌<◌, ◌≤◌,
 use Rattle.std.proofs.lemmas.List.{append-nil}
 use mathlib.Core.List.{IsPrefix}
 use Rattle.std.proofs.lemmas.Option.{slice_get_within}
-use Rattle.table_replica.proofs.Shared.{get_at}
+use Rattle.filter_table.proofs.Positions.{get_at}
 use Rattle.filter_table.specs.Limits.{TableLimits}
 use Rattle.filter_table.specs.declared.operation.Op.{Op}
 use Rattle.monitor_messages.specs.declared.message.Message.{Message}
-use Rattle.monitor_2pc.specs.Coordinators.{CoordinatorPlace, Requests, Idle}
+use Rattle.two_phase.specs.Coordinators.{CoordinatorPlace, Requests, Idle}
 use Rattle.filter_table.specs.Tables.{TableState, table}
 use Rattle.world_model.specs.Cases.{Outgoing, nothing, to_all, to_one, outgoing, TakesUpAt}
 use Rattle.world_model.specs.Agreement.{Expects}

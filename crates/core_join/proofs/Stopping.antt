@@ -2,15 +2,15 @@
 use Rattle.std.proofs.Common.{◌≡◌, ◌+◌, ◌<◌, ℕ, suc, true, Option, Some, None, List, [], ◌∷◌, ◌++◌, length, slice_get, refl, sym, ap, subst, ◌∙◌, arith}
 use mathlib.Core.List.{IsPrefix}
 use Rattle.std.proofs.lemmas.Option.{slice_get_within}
-use Rattle.table_replica.proofs.Shared.{get_at}
+use Rattle.filter_table.proofs.Positions.{get_at}
 use Rattle.filter_table.specs.Limits.{TableLimits}
 use Rattle.filter_table.specs.Tables.{TableState, table}
 use Rattle.monitor_messages.specs.declared.message.Message.{Message}
 use Rattle.monitor_messages.specs.declared.message.Message.TheVariants as message
 use Rattle.monitor_messages.specs.Coding.{Coded}
 use Rattle.monitor_messages.proofs.Messages.{coded_once}
-use Rattle.monitor_2pc.specs.Participants.{ParticipantPlace, Fits}
-use Rattle.monitor_2pc.specs.Coordinators.{CoordinatorPlace, Requests}
+use Rattle.two_phase.specs.Participants.{ParticipantPlace, Fits}
+use Rattle.two_phase.specs.Coordinators.{CoordinatorPlace, Requests}
 use Rattle.world_model.specs.Agreement.{Expects}
 use Rattle.world_histories.specs.declared.history.Stamped.{Stamped}
 use Rattle.world_histories.specs.Histories.{Stamping, sent_to, sent_by, taken_from, Core0State, OtherState, TakesInOrder, Computation}

@@ -10,9 +10,9 @@ use Rattle.filter_table.specs.declared.decision.Decision.TheVariants.{Refused}
 use Rattle.monitor_messages.specs.declared.message.Message.{Message}
 use Rattle.monitor_messages.specs.declared.message.Message.TheVariants as message
 use Rattle.monitor_messages.specs.Coding.{IsNumbered}
-use Rattle.monitor_2pc.specs.declared.step.Step.{Step}
+use Rattle.two_phase.specs.declared.step.Step.{Step}
 use Rattle.monitor_2pc.specs.Places.{after_commit}
-use Rattle.monitor_2pc.specs.Coordinators.{CoordinatorPlace, Requests, Phase, Idle, Voting, Acking, Tallies, waits, commits_all, aborts_all, StagedByPhase, veto_by, phase_with, reply_at, requests_at, with_decided, with_waiting}
+use Rattle.two_phase.specs.Coordinators.{CoordinatorPlace, Requests, Phase, Idle, Voting, Acking, Tallies, waits, commits_all, aborts_all, StagedByPhase, veto_by, phase_with, reply_at, requests_at, with_decided, with_waiting}
 use Rattle.world_events.specs.declared.event.Answer.TheVariants.{TookVote, TookAck, TookSubmit}
 use Rattle.world_model.specs.Agreement.{Expects}
 use Rattle.world_progress.proofs.Tallied.{Tallied, tallied}

@@ -5,7 +5,7 @@ use Rattle.filter_table.specs.Limits.{TableLimits}
 use Rattle.filter_table.specs.declared.operation.Op.{Op}
 use Rattle.filter_table.specs.Tables.{table}
 use Rattle.filter_table.specs.declared.decision.Decision.{Decision}
-use Rattle.monitor_2pc.specs.Coordinators.{Idle}
+use Rattle.two_phase.specs.Coordinators.{Idle}
 use Rattle.world_events.specs.declared.event.Answer.TheVariants.{TookReply}
 use Rattle.world_histories.specs.declared.history.Stamped.{Stamped}
 use Rattle.world_histories.specs.Histories.{Core0State, OtherState, Computation}

@@ -10,8 +10,8 @@ use Rattle.world_histories.proofs.More.{history0_more, history_other_more, sent_
 use Rattle.filter_table.specs.Limits.{TableLimits}
 use Rattle.filter_table.specs.Tables.{empty_table, table}
 use Rattle.filter_table.proofs.Tables.{table_whole}
-use Rattle.monitor_2pc.specs.Coordinators.{no_requests}
-use Rattle.monitor_2pc.specs.Participants.{at_first}
+use Rattle.two_phase.specs.Coordinators.{no_requests}
+use Rattle.two_phase.specs.Participants.{at_first}
 use Rattle.world_model.specs.Worlds.{idle_at_first}
 use Rattle.core_steps.specs.declared.core0.Core0.{Core0}
 use Rattle.core_steps.specs.declared.other_core.OtherCore.{OtherCore}

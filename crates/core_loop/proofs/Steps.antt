@@ -4,8 +4,8 @@ use Rattle.filter_table.specs.declared.operation.Op.{Op}
 use Rattle.filter_table.specs.Tables.{TableState, table}
 use Rattle.filter_table.proofs.Tables.{table_version}
 use Rattle.monitor_2pc.specs.Places.{after_commit}
-use Rattle.monitor_2pc.specs.Coordinators.{CoordinatorPlace, Requests, Idle, coordinator_place}
-use Rattle.monitor_2pc.specs.Participants.{ParticipantPlace}
+use Rattle.two_phase.specs.Coordinators.{CoordinatorPlace, Requests, Idle, coordinator_place}
+use Rattle.two_phase.specs.Participants.{ParticipantPlace}
 use Rattle.world_events.specs.declared.event.Event.TheVariants.{Start, Submit, StartFor, Take}
 use Rattle.world_events.specs.declared.event.Answer.{Answer}
 use Rattle.world_events.specs.declared.event.Answer.TheVariants.{Prepared, Decided, Submitted, TookPrepare, TookVote, TookCommit, TookAbort, TookAck, TookSubmit, TookReply, Delivered}

@@ -9,7 +9,7 @@ use Rattle.monitor_messages.specs.declared.loaded.Carrier.{Carrier}
 use Rattle.monitor_messages.specs.declared.loaded.Carrier.TheVariants as carrier
 use Rattle.monitor_messages.specs.Carrying.{CarriesProgram, loaded_message}
 use Rattle.monitor_messages.specs.Coding.{Coded}
-use Rattle.monitor_2pc.specs.Participants.{Fits}
+use Rattle.two_phase.specs.Participants.{Fits}
 use Rattle.world_histories.specs.Histories.{Stamping}
 use Rattle.core_links.specs.Views.{LinkView, first_of}
 use Rattle.core_steps.specs.declared.other_core.OtherCore.{OtherCore}

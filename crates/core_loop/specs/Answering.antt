@@ -2,7 +2,7 @@
 use Rattle.std.specs.Prelude.{◌≡◌, ◌+◌, ◌-◌, ◌^◌, ◌++◌, ℕ, Bool, true, false, Option, Some, None, List, [], ◌∷◌, length, min}
 use Rattle.filter_table.specs.declared.decision.Decision.{Decision}
 use Rattle.filter_table.specs.declared.operation.Op.{Op}
-use Rattle.monitor_2pc.specs.Coordinators.{Phase, Voting}
+use Rattle.two_phase.specs.Coordinators.{Phase, Voting}
 use Rattle.world_events.specs.declared.event.Event.{Event}
 use Rattle.world_events.specs.declared.event.Event.TheVariants.{Start, StartFor}
 use Rattle.world_events.specs.declared.event.Answer.{Answer}

@@ -1,7 +1,7 @@
 -- Which requests a core can begin.
 use Rattle.std.specs.Prelude.{◌≡◌, ◌≢◌, ◌⊎◌, ◌<◌, ◌-◌, ℕ, suc, true, false, Some, List, [], slice_get}
 use Rattle.filter_table.specs.declared.operation.Op.{Op}
-use Rattle.monitor_2pc.specs.Coordinators.{Idle}
+use Rattle.two_phase.specs.Coordinators.{Idle}
 use Rattle.core_links.specs.Views.{LinkView}
 use Rattle.core_steps.specs.declared.core0.Core0.{Core0}
 use Rattle.core_steps.specs.declared.other_core.OtherCore.{OtherCore}

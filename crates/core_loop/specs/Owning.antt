@@ -1,7 +1,7 @@
 -- Whose request is under way at core 0.
 -- No public clause cites these.
 use Rattle.std.specs.Prelude.{◌≡◌, ℕ, Bool, true, false, Option, Some, None}
-use Rattle.monitor_2pc.specs.Coordinators.{Phase, Idle}
+use Rattle.two_phase.specs.Coordinators.{Phase, Idle}
 use Rattle.core_loop.specs.declared.part.Part.{Part}
 use Rattle.core_loop.specs.declared.part.Part.TheVariants as part
 

@@ -2,7 +2,7 @@
 
 ghost use Rattle.std.specs.Prelude.{◌≡◌, ◌≢◌, ◌≤◌, ◌<◌, ◌+◌, max, ◌∷◌, ◌++◌, [], ℕ, suc, true, false, Some, IfOk, IfErr, IfSome, IfNone, OnErr, None, slice_get};
 ghost use Rattle.filter_table.specs.declared.operation.Op.{Op as GhostOp};
-ghost use Rattle.monitor_2pc.specs.Coordinators.{Idle};
+ghost use Rattle.two_phase.specs.Coordinators.{Idle};
 ghost use Rattle.monitor_2pc.specs.Starting.{WasStaged};
 ghost use Rattle.core_steps.specs.Core0Steps.{BetweenSteps, CanBegin, HasWaiting, start_sends, start_for_sends};
 ghost use Rattle.world_events.specs.declared.event.Event.TheVariants.{Start, StartFor, Take};

@@ -75,7 +75,7 @@ impl Model for BoxedPart {
 impl BoxedPart {
     ghost use Rattle.std.specs.Prelude.{◌≡◌, ◌<◌, ◌≤◌, [], ℕ, IfOk};
     ghost use Rattle.core_links.specs.Views.{LinkView};
-    ghost use Rattle.monitor_2pc.specs.declared.most.TheConstants.{MOST_CORES};
+    ghost use Rattle.two_phase.specs.declared.most.TheConstants.{MOST_CORES};
     ghost use Rattle.core_loop.specs.Keeping.{IsStanding};
     ghost use Rattle.core_loop.specs.Standing.{IsSilent};
     ghost use Rattle.core_loop.specs.Keeping.{replica_of};

@@ -70,7 +70,7 @@ fn drop_links<L: Links>(links: L) {
 
 impl<L: Links> Model for Core<L> {
     ghost use Rattle.std.specs.Prelude.{◌≡◌, ◌<◌, ◌≤◌};
-    ghost use Rattle.monitor_2pc.specs.declared.most.TheConstants.{MOST_CORES};
+    ghost use Rattle.two_phase.specs.declared.most.TheConstants.{MOST_CORES};
     ghost use Rattle.core_loop.specs.Cores.{CoreState, AreShort};
     ghost use Rattle.core_loop.specs.Keeping.{IsStanding};
     ghost use Rattle.core_loop.specs.InTurn.{last_begun};
@@ -87,7 +87,7 @@ impl<L: Links> Model for Core<L> {
 impl<L: Links> Core<L> {
     ghost use Rattle.std.specs.Prelude.{◌≡◌, ◌≢◌, ◌<◌, ◌≤◌, ◌↔◌, ◌++◌, ◌∷◌, ℕ, List, Option, option_to_list, [], length, true, false, Some, None, IfOk, IfSome, IfNone, IsTrue, MatchOption};
     ghost use mathlib.Core.List.{IsPrefix};
-    ghost use Rattle.monitor_2pc.specs.declared.most.TheConstants.{MOST_CORES};
+    ghost use Rattle.two_phase.specs.declared.most.TheConstants.{MOST_CORES};
     ghost use Rattle.rx_queue.specs.Queue.{jobs_put, jobs_seen, jobs_taken, AreEnds, SamePort, SameIntake};
     ghost use Rattle.rx_queue.specs.declared.job.Job.{Job as GhostJob};
     ghost use Rattle.world_histories.specs.declared.history.Stamped.{Stamped as GhostStamped};

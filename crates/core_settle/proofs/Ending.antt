@@ -2,7 +2,7 @@
 use Rattle.std.proofs.Common.{◌≡◌, ◌∙◌, ◌+◌, ◌<◌, ◌≤◌, ◌⊎◌, inl, inr, ℕ, suc, Option, None, Some, List, [], ◌∷◌, length, refl, sym, ap, subst, arith}
 use Rattle.std.specs.Prelude.{IfSome, IfNone}
 use Rattle.std.proofs.lemmas.Option.{slice_get_within}
-use Rattle.table_replica.proofs.Shared.{get_at}
+use Rattle.filter_table.proofs.Positions.{get_at}
 use Rattle.core_links.specs.RingSlots.{ring_view}
 use Rattle.core_loop.specs.declared.part.Part.{Part}
 use Rattle.core_loop.specs.declared.part.Part.TheVariants as part

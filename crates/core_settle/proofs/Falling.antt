@@ -1,11 +1,11 @@
 -- Each round in which something is left to do leaves less work ahead.
 use Rattle.std.proofs.Common.{◌≡◌, ◌∙◌, ◌+◌, ◌-◌, ◌*◌, ◌<◌, ◌≤◌, ◌⊎◌, inl, inr, ℕ, zero, suc, false, All, Option, Some, None, List, [], ◌∷◌, length, map, get_or, slice_get, refl, sym, ap, subst, arith}
 use Rattle.std.proofs.lemmas.Option.{slice_get_within, get_or_from_slice_get}
-use Rattle.table_replica.proofs.Shared.{get_at}
+use Rattle.filter_table.proofs.Positions.{get_at}
 use Rattle.world_model.proofs.Lists.{get_map}
 use Rattle.filter_table.specs.Limits.{TableLimits}
 use Rattle.filter_table.specs.declared.operation.Op.{Op}
-use Rattle.monitor_2pc.specs.Coordinators.{CoordinatorPlace, Idle}
+use Rattle.two_phase.specs.Coordinators.{CoordinatorPlace, Idle}
 use Rattle.world_model.specs.Cases.{outgoing}
 use Rattle.world_histories.specs.Histories.{unstamped, OtherState, sent_to, sent_by}
 use Rattle.world_progress.specs.Remaining.{steps, total}

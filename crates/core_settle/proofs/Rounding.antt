@@ -1,7 +1,7 @@
 -- Rounds one after another.
 use Rattle.std.proofs.Common.{◌≡◌, ◌∙◌, ◌+◌, ◌<◌, ◌≤◌, ◌⊎◌, inl, inr, ℕ, zero, suc, List, [], ◌∷◌, length, refl, sym, ap, subst, arith}
 use Rattle.std.proofs.lemmas.Option.{slice_get_within}
-use Rattle.table_replica.proofs.Shared.{get_at}
+use Rattle.filter_table.proofs.Positions.{get_at}
 use Rattle.std.proofs.lemmas.List.{append-nil}
 use Rattle.rx_queue.specs.Queue.{jobs_taken}
 use Rattle.core_loop.specs.Cores.{receipts}

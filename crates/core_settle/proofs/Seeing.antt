@@ -2,7 +2,7 @@
 use Rattle.std.proofs.Common.{◌≡◌, ◌≢◌, ◌<◌, ◌≤◌, ◌+◌, ◌⊎◌, inl, inr, ℕ, Some, List, length, slice_get, slice_set, refl, sym, ap, subst, ◌∙◌, arith}
 use Rattle.std.proofs.lemmas.Option.{slice_get_within}
 use Rattle.world_model.proofs.Lists.{get-set_same, get-set_other, length-slice_set, same_or_not}
-use Rattle.table_replica.proofs.Shared.{get_at}
+use Rattle.filter_table.proofs.Positions.{get_at}
 use Rattle.core_links.specs.Views.{LinkView}
 use Rattle.core_links.specs.Flows.{Flow, IsExact, LooksAt, ring_flow, ring_capacity}
 use Rattle.core_links.specs.RingSlots.{own_of, ring_view, AreJoinedLinks}

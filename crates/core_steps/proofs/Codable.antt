@@ -24,7 +24,7 @@ use Rattle.filter_table.specs.declared.decision.Decision.{Decision}
 use Rattle.filter_table.specs.declared.decision.Decision.TheVariants.{Refused}
 use Rattle.monitor_messages.specs.declared.message.Message.{Message}
 use Rattle.monitor_messages.specs.Coding.{IsShort}
-use Rattle.monitor_2pc.specs.Coordinators.{veto_of}
+use Rattle.two_phase.specs.Coordinators.{veto_of}
 use Rattle.monitor_2pc.specs.Starting.{WasStaged}
 use Rattle.core_steps.specs.Core0Steps.{CanBeSent}
 

@@ -6,14 +6,14 @@ use Rattle.filter_table.specs.Tables.{TableState}
 use Rattle.monitor_messages.specs.declared.message.Message.TheVariants as message
 use Rattle.filter_table.specs.declared.decision.Vote.{Vote}
 use Rattle.filter_table.specs.declared.decision.Decision.{Decision}
-use Rattle.monitor_2pc.specs.declared.step.Say.{Say}
-use Rattle.monitor_2pc.specs.declared.step.Say.TheVariants.{Commit, Abort}
-use Rattle.monitor_2pc.specs.declared.step.Step.{Step}
-use Rattle.monitor_2pc.specs.Coordinators.{CoordinatorPlace, Requests, Tallies, waits, commits_all, aborts_all, HearsAck}
-use Rattle.monitor_2pc.specs.Coordinators as coordinators
+use Rattle.two_phase.specs.declared.step.Say.{Say}
+use Rattle.two_phase.specs.declared.step.Say.TheVariants.{Commit, Abort}
+use Rattle.two_phase.specs.declared.step.Step.{Step}
+use Rattle.two_phase.specs.Coordinators.{CoordinatorPlace, Requests, Tallies, waits, commits_all, aborts_all, HearsAck}
+use Rattle.two_phase.specs.Coordinators as coordinators
 use Rattle.monitor_2pc.specs.Starting.{asked_by}
 use Rattle.world_model.specs.Cases.{Outgoing, nothing, to_all, to_one, outgoing, as_reply}
-use Rattle.monitor_2pc.specs.Coordinators.{Phase, Idle, Voting, Acking, StagedByPhase, coordinator_place}
+use Rattle.two_phase.specs.Coordinators.{Phase, Idle, Voting, Acking, StagedByPhase, coordinator_place}
 use Rattle.core_steps.specs.declared.core0.Core0.{Core0}
 use Rattle.core_steps.specs.declared.core0.Told.{Told}
 use Rattle.core_steps.specs.Core0Steps.{asks, start_sends, core0_place, BetweenSteps, TakesUp}

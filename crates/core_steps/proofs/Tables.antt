@@ -5,7 +5,7 @@ use Rattle.filter_table.specs.declared.operation.Op.{Op}
 use Rattle.filter_table.specs.Tables.{table}
 use Rattle.filter_table.proofs.Tables.{table_next}
 use Rattle.monitor_2pc.specs.Places.{after_commit}
-use Rattle.monitor_2pc.specs.Coordinators.{Phase, Idle, Voting, Acking, StagedByPhase}
+use Rattle.two_phase.specs.Coordinators.{Phase, Idle, Voting, Acking, StagedByPhase}
 use Rattle.world_model.specs.Cases.{joined}
 
 -- the newest table once this is committed, if anything is

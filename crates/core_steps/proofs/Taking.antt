@@ -8,9 +8,9 @@ use Rattle.monitor_messages.specs.declared.message.Message.{Message}
 use Rattle.monitor_messages.specs.declared.message.Message.TheVariants as message
 use Rattle.filter_table.specs.declared.decision.Vote.{Vote}
 use Rattle.filter_table.specs.declared.decision.Vote.TheVariants as vote
-use Rattle.monitor_2pc.specs.declared.step.Stranger.{Stranger}
+use Rattle.two_phase.specs.declared.step.Stranger.{Stranger}
 use Rattle.monitor_2pc.specs.Places.{after_commit}
-use Rattle.monitor_2pc.specs.Participants.{ParticipantPlace, ParticipantState, StagedByVote, Answers, Fits, staged_by}
+use Rattle.two_phase.specs.Participants.{ParticipantPlace, ParticipantState, StagedByVote, Answers, Fits, staged_by}
 use Rattle.world_events.specs.declared.event.Answer.TheVariants.{TookPrepare, TookCommit}
 use Rattle.world_model.specs.Cases.{raised}
 use Rattle.core_steps.specs.declared.other_core.OtherCore.{OtherCore}

@@ -10,7 +10,7 @@ use Rattle.filter_table.specs.declared.decision.Decision.TheVariants.{Refused}
 use Rattle.monitor_messages.specs.Coding.{IsShort, IsNumbered}
 use Rattle.monitor_messages.specs.Carrying.{BringsOp}
 use Rattle.monitor_2pc.specs.Places.{after_commit}
-use Rattle.monitor_2pc.specs.Coordinators.{CoordinatorPlace, CanStart, StagedByPhase, coordinator_place, veto_of}
+use Rattle.two_phase.specs.Coordinators.{CoordinatorPlace, CanStart, StagedByPhase, coordinator_place, veto_of}
 use Rattle.world_model.specs.Cases.{Outgoing, nothing, to_all, to_one, StartsAt, StartsForAt, TakesUpAt}
 use Rattle.core_steps.specs.declared.core0.Core0.{Core0}
 use Rattle.core_steps.specs.declared.core0.Told.{Told}

@@ -6,7 +6,7 @@ use Rattle.monitor_messages.specs.declared.message.Message.{Message}
 use Rattle.monitor_messages.specs.declared.message.Message.TheVariants as message
 use Rattle.filter_table.specs.declared.decision.Vote.TheVariants.{Yes}
 use Rattle.monitor_2pc.specs.Places.{after_commit}
-use Rattle.monitor_2pc.specs.Participants.{ParticipantPlace, place_of, StagedByVote, Casts, Fits, staged_by}
+use Rattle.two_phase.specs.Participants.{ParticipantPlace, place_of, StagedByVote, Casts, Fits, staged_by}
 use Rattle.world_events.specs.declared.event.Answer.{Answer}
 use Rattle.world_model.specs.Cases.{TakesDownAt}
 use Rattle.core_steps.specs.declared.other_core.OtherCore.{OtherCore}

@@ -9,7 +9,7 @@ use Rattle.monitor_messages.specs.declared.message.Message.TheVariants.{Prepare}
 use Rattle.monitor_messages.specs.declared.loaded.Carrier.{Carrier}
 use Rattle.monitor_messages.specs.Carrying.{loaded_message}
 use Rattle.monitor_messages.specs.Coding.{Coded}
-use Rattle.monitor_2pc.specs.Participants.{ParticipantPlace, Casts, Fits, staged_by}
+use Rattle.two_phase.specs.Participants.{ParticipantPlace, Casts, Fits, staged_by}
 use Rattle.core_steps.specs.declared.unread.Ballot.{Ballot}
 use Rattle.core_steps.specs.declared.unread.Unread.{Unread}
 use Rattle.core_steps.specs.declared.unread.Unread.TheVariants.{BadMessage, Stranger}

@@ -4,7 +4,7 @@ ghost use Rattle.std.specs.Prelude.{◌≡◌, ◌≢◌, ◌+◌, ◌-◌, ◌<
 ghost use Rattle.filter_table.specs.declared.operation.Op.{Op as GhostOp};
 ghost use Rattle.filter_table.specs.Tables.{empty_table};
 ghost use Rattle.monitor_messages.specs.declared.message.Message.TheVariants as message;
-ghost use Rattle.monitor_2pc.specs.Coordinators.{Idle, CanStart, coordinator_place, no_requests};
+ghost use Rattle.two_phase.specs.Coordinators.{Idle, CanStart, coordinator_place, no_requests};
 ghost use Rattle.monitor_2pc.specs.Starting.{WasStaged};
 ghost use Rattle.world_model.specs.Agreement.{Expects};
 ghost use Rattle.world_model.specs.Cases.{outgoing, start_told};

@@ -4,7 +4,7 @@ ghost use Rattle.std.specs.Prelude.{ℕ, List, IfOk, IfErr};
 ghost use Rattle.monitor_messages.specs.Carrying.{CarriesProgram, loaded_message};
 ghost use Rattle.monitor_messages.specs.Coding.{Coded};
 ghost use Rattle.monitor_messages.specs.Programs.{insns_of};
-ghost use Rattle.monitor_2pc.specs.Participants.{StagedByVote, place_of};
+ghost use Rattle.two_phase.specs.Participants.{StagedByVote, place_of};
 ghost use Rattle.core_steps.specs.Unread.{IsBallot, CannotVote};
 
 use monitor_2pc::{Participant, Vote};

@@ -27,7 +27,7 @@ use Rattle.core_threads.proofs.Looked.{before as before_look, ran_unstopped, rig
 use Rattle.core_threads.specs.Runs.{StandsFor, StandsSo}
 use Rattle.std.proofs.lemmas.Option.{slice_get_within}
 use Rattle.filter_table.proofs.Lists.{map-get}
-use Rattle.table_replica.proofs.Shared.{get_at}
+use Rattle.filter_table.proofs.Positions.{get_at}
 
 abbrev pub cores_of : List Ran → List RingCore
 cores_of ran = map (λ r. r.core) ran

@@ -1,7 +1,7 @@
 -- Cores get their lists, one after another.
 use Rattle.std.proofs.Common.{◌≡◌, ℕ, List, [], ◌∷◌, ◌++◌, Some, slice_get, length, refl, ap, ◌∙◌, arith}
 use Rattle.std.proofs.lemmas.Option.{slice_get_within}
-use Rattle.table_replica.proofs.Shared.{get_at}
+use Rattle.filter_table.proofs.Positions.{get_at}
 use Rattle.rx_queue.specs.declared.port.Port.{Port}
 use Rattle.core_join.specs.Machines.{RingCore}
 use Rattle.core_boot.specs.Booted.{AreBooted}

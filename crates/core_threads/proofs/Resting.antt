@@ -4,7 +4,7 @@ use Rattle.std.specs.Prelude.{IsTrue, IfSome}
 use Rattle.std.proofs.lemmas.Bool.{cases_lt}
 use Rattle.std.proofs.lemmas.List.{map-id}
 use Rattle.std.proofs.lemmas.Option.{slice_get_within, slice_get-get_or}
-use Rattle.table_replica.proofs.Shared.{get_at}
+use Rattle.filter_table.proofs.Positions.{get_at}
 use Rattle.rx_queue.specs.declared.job.Job.{Job}
 use Rattle.core_boot.specs.Lanes.{items_for}
 use Rattle.core_loop.specs.Keeping.{replica_of}

@@ -2,7 +2,7 @@
 
 ghost use Rattle.std.specs.Prelude.{◌≡◌, ◌<◌, ◌⊎◌, ◌↔◌, All, length, Err, IfOk};
 ghost use Rattle.filter_table.specs.Limits.{default_limits};
-ghost use Rattle.world_core.specs.declared.fault.BootFault.TheVariants.{CoreCount};
+ghost use Rattle.world_events.specs.declared.boot.BootFault.TheVariants.{CoreCount};
 ghost use Rattle.core_boot.specs.Booted.{AreBooted};
 ghost use Rattle.core_boot.specs.Booting.{HaveRequests, AreGivable, IsMachineOf};
 ghost use Rattle.core_threads.specs.Recording.{HaveNoHistories};

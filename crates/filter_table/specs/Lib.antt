@@ -4,3 +4,4 @@ pub mod Tables
 pub mod Loading
 pub mod Staging
 pub mod Soundness
+pub mod Raising

@@ -9,7 +9,7 @@ use Rattle.world_events.specs.declared.event.Event.TheVariants.{Submit}
 use Rattle.world_events.specs.declared.event.Done.{Done}
 use Rattle.world_model.specs.Worlds.{World, boot, Run}
 use Rattle.world_model.proofs.Known.{run_known}
-use Rattle.world_core.specs.Refusals.{Extends, IsShortEvent}
+use Rattle.world_model.specs.Refusals.{Extends, IsShortEvent}
 use Rattle.headline.specs.Shown.{replica_of_peer, replicas_of}
 
 pub extends_none : (w : World) → Extends w [] w

@@ -8,7 +8,7 @@ use Rattle.filter_table.specs.Limits.{TableLimits}
 use Rattle.filter_table.specs.declared.operation.Op.{Op}
 use Rattle.filter_table.specs.Tables.{HasShortProgram}
 use Rattle.table_replica.specs.Shown.{ReplicaState}
-use Rattle.table_replica.proofs.Shared.{get_at}
+use Rattle.filter_table.proofs.Positions.{get_at}
 use Rattle.rx_queue.specs.declared.job.Job.{Job}
 use Rattle.world_events.specs.declared.event.Done.{Done}
 use Rattle.world_model.specs.Decisions.{Delivers}

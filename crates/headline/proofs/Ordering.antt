@@ -7,7 +7,7 @@ use Rattle.std.proofs.lemmas.List.Elements.{All-nil, All-cons}
 use Rattle.std.proofs.lemmas.List.Concat.{flat_map-append}
 use Rattle.std.proofs.lemmas.List.Sums.{sum_by-append}
 use Rattle.filter_table.specs.declared.operation.Op.{Op}
-use Rattle.table_replica.proofs.Shared.{get_at, get_front}
+use Rattle.filter_table.proofs.Positions.{get_at, get_front}
 use Rattle.world_events.specs.declared.event.Event.{Event}
 use Rattle.world_events.specs.declared.event.Event.TheVariants.{Start, Submit, StartFor, Take, Rx}
 use Rattle.world_events.specs.declared.event.Done.{Done}

@@ -9,7 +9,7 @@ use mathlib.Core.List.{IsPrefix}
 use Rattle.filter_table.specs.Limits.{TableLimits}
 use Rattle.filter_table.specs.declared.operation.Op.{Op}
 use Rattle.filter_table.specs.Tables.{HasShortProgram}
-use Rattle.table_replica.proofs.Shared.{get_at}
+use Rattle.filter_table.proofs.Positions.{get_at}
 use Rattle.world_events.specs.declared.event.Event.TheVariants.{StartFor, Rx}
 use Rattle.world_events.specs.declared.event.Answer.TheVariants.{Delivered}
 use Rattle.world_events.specs.declared.event.Done.{Done}

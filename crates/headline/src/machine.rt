@@ -5,7 +5,7 @@ ghost use Rattle.filter_table.specs.declared.operation.Op.{Op as GhostOp};
 ghost use Rattle.filter_table.specs.Tables.{HasShortProgram};
 ghost use Rattle.world_events.specs.declared.event.Event.TheVariants.{Submit};
 ghost use Rattle.world_model.specs.Decisions.{Delivers};
-ghost use Rattle.world_core.specs.Refusals.{Extends};
+ghost use Rattle.world_model.specs.Refusals.{Extends};
 ghost use Rattle.headline.specs.declared.fault.Fault.TheVariants.{CoreCount};
 ghost use Rattle.headline.specs.Headline.{ShowTables, AreEqualByVersion};
 ghost use Rattle.world_model.specs.Committed.{log_of};

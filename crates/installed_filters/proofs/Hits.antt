@@ -9,7 +9,8 @@ use Rattle.filter_group.proofs.Edits.{contains_at, at_contains}
 use Rattle.filter_group.proofs.Sides.{one_thing}
 use Rattle.filter_table.specs.declared.delivery.Kept.{Kept}
 use Rattle.installed_filters.specs.Counts.{numbers, reach_at, reach_key, AreIndexed, AreWithin, AreReachKeys, no_counts, ends_at}
-use Rattle.installed_filters.specs.Keeping.{at_endpoint, AreKept, AreApart, AreNoted, GetsBy, GetsBefore, GetsOr, GetsNoted}
+use Rattle.installed_filters.specs.Keeping.{AreKept, AreApart, AreNoted, GetsBy, GetsBefore, GetsOr, GetsNoted}
+use Rattle.filter_table.specs.Raising.{at_endpoint}
 use Rattle.installed_filters.proofs.Raised.{kept_alike, kept_none}
 use Rattle.installed_filters.proofs.Walks.{keep_one}
 use Rattle.installed_filters.proofs.Indexed.{key_endpoint, key_number}

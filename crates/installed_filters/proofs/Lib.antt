@@ -18,7 +18,6 @@ pub mod Hits
 pub mod Numbers
 pub mod Freeing
 pub mod Ids
-pub mod Positions
 pub mod Different
 pub mod Keys
 pub mod Under

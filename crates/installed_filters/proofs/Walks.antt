@@ -15,8 +15,10 @@ use Rattle.filter_table.specs.Tables.{IsIncreasing}
 use Rattle.filter_table.proofs.Lists.{never, in_head, in_tail, first_or_later}
 use Rattle.filter_group.specs.declared.lockstep.Hit.{Hit}
 use Rattle.installed_filters.specs.Counts.{numbers}
-use Rattle.installed_filters.specs.Keeping.{raised, AreKept, GetsBefore, GetsOr, GetsNoted}
-use Rattle.installed_filters.proofs.Raised.{kept_alike, kept_none, kept_raised, raised_increases}
+use Rattle.installed_filters.specs.Keeping.{AreKept, GetsBefore, GetsOr, GetsNoted}
+use Rattle.filter_table.specs.Raising.{raised}
+use Rattle.installed_filters.proofs.Raised.{kept_alike, kept_none, kept_raised}
+use Rattle.filter_table.proofs.Raised.{raised_increases}
 
 -- Entries of a map
 

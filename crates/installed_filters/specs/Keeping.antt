@@ -1,22 +1,13 @@
 -- How much of a packet which endpoints keep.
 -- No public clause cites these.
-use Rattle.std.specs.Prelude.{◌≡◌, ◌==◌, ◌<◌, ◌≤◌, ◌↔◌, ◌⊎◌, ◌%◌, ◌/◌, ℕ, true, Some, is_some, cond, ltb, max, min, List, [], ◌∷◌, slice_get, slice_index}
+use Rattle.std.specs.Prelude.{◌≡◌, ◌<◌, ◌≤◌, ◌↔◌, ◌⊎◌, ◌%◌, ◌/◌, ℕ, true, Some, is_some, min, List, slice_get, slice_index}
 use Rattle.std.specs.List.{Contains}
 use Rattle.chunked.specs.Maps.{SortedMap, value_at}
 use Rattle.filter_group.specs.declared.lockstep.Hit.{Hit}
 use Rattle.filter_table.specs.declared.delivery.Kept.{Kept}
 use Rattle.filter_table.specs.Tables.{IsIncreasing}
+use Rattle.filter_table.specs.Raising.{at_endpoint}
 use Rattle.installed_filters.specs.Counts.{numbers, reach_at}
-
-abbrev pub at_endpoint : ℕ → ℕ → Kept
-at_endpoint endpoint kept = record { endpoint = endpoint; kept = kept }
-
--- the endpoint keeps at least so many bytes from now on, in a list in order of endpoints
-abbrev pub raised : List Kept → ℕ → ℕ → List Kept
-raised [] endpoint bytes = at_endpoint endpoint bytes ∷ []
-raised (k ∷ ks) endpoint bytes =
-    cond (ltb endpoint k.endpoint) (at_endpoint endpoint bytes ∷ k ∷ ks)
-    (cond (k.endpoint == endpoint) (at_endpoint endpoint (max k.kept bytes) ∷ ks) (k ∷ raised ks endpoint bytes))
 
 -- the endpoint keeps so many bytes: as many as the greatest verdict by which it gets the packet says, at most the captured ones
 pub record Keeps (gets : ℕ → ℕ → Type 0) (captured endpoint bytes : ℕ) : Type 0 where

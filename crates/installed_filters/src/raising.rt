@@ -3,7 +3,7 @@ ghost use Rattle.std.specs.Prelude.{◌≡◌, ◌+◌, ◌<◌, ◌≤◌, ℕ,
 ghost use Rattle.std.specs.List.{All};
 ghost use Rattle.filter_table.specs.Tables.{IsIncreasing};
 ghost use Rattle.filter_table.specs.declared.delivery.Kept.{Kept as GhostKept};
-ghost use Rattle.installed_filters.specs.Keeping.{at_endpoint, raised};
+ghost use Rattle.filter_table.specs.Raising.{at_endpoint, raised};
 
 use filter_table::Kept;
 use std::alloc::AllocError;

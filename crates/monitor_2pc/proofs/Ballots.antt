@@ -7,10 +7,10 @@ use Rattle.filter_table.specs.Tables.{TableState, after, made, instructions, ins
 use Rattle.filter_table.proofs.Tables.{allowed_fits, version-after}
 use Rattle.filter_table.specs.declared.decision.Vote.TheVariants.{Yes, NoMemory}
 use Rattle.filter_table.specs.declared.decision.Decision.TheVariants.{Committed}
-use Rattle.monitor_2pc.specs.declared.step.Say.{Say}
-use Rattle.monitor_2pc.specs.declared.step.Step.{Step}
-use Rattle.monitor_2pc.specs.Participants.{Casts}
-use Rattle.monitor_2pc.specs.Coordinators.{step}
+use Rattle.two_phase.specs.declared.step.Say.{Say}
+use Rattle.two_phase.specs.declared.step.Step.{Step}
+use Rattle.two_phase.specs.Participants.{Casts}
+use Rattle.two_phase.specs.Coordinators.{step}
 
 within : (s : TableState) (budget : ℕ) → instructions_of s.filters ≤ budget → instructions s ≤ budget
 unfolding instructions

@@ -18,10 +18,10 @@ use Rattle.filter_table.specs.declared.decision.Decision.TheVariants.{Committed,
 use Rattle.filter_table.specs.declared.decision.Vote.{Vote}
 use Rattle.monitor_2pc.specs.declared.coordinator.Wait.{Wait}
 use Rattle.monitor_2pc.specs.declared.coordinator.Wait.TheVariants.{Nothing, Votes, Acks}
-use Rattle.monitor_2pc.specs.declared.step.Step.{Step}
+use Rattle.two_phase.specs.declared.step.Step.{Step}
 use Rattle.monitor_2pc.specs.Waiting.{phase_of, KeepsDecided}
 use Rattle.monitor_2pc.specs.Places.{after_commit}
-use Rattle.monitor_2pc.specs.Coordinators.{Phase, Idle, Voting, CoordinatorPlace, CoordinatorState, Requests, coordinator_place, CanSubmit, with_waiting, Starts, refused, unstaged, alone, prepared, StartsFor, reply_to, asker_after, step, veto_of}
+use Rattle.two_phase.specs.Coordinators.{Phase, Idle, Voting, CoordinatorPlace, CoordinatorState, Requests, coordinator_place, CanSubmit, with_waiting, Starts, refused, unstaged, alone, prepared, StartsFor, reply_to, asker_after, step, veto_of}
 
 -- Requests that wait
 

@@ -5,13 +5,13 @@ use Rattle.filter_table.specs.declared.operation.Op.{Op}
 use Rattle.filter_table.specs.Tables.{TableState}
 use Rattle.filter_table.specs.declared.decision.Vote.{Vote}
 use Rattle.filter_table.specs.declared.decision.Vote.TheVariants.{Yes}
-use Rattle.monitor_2pc.specs.declared.step.Say.{Say}
-use Rattle.monitor_2pc.specs.declared.step.Say.TheVariants.{Prepare, Commit, Abort}
-use Rattle.monitor_2pc.specs.declared.step.Step.{Step}
+use Rattle.two_phase.specs.declared.step.Say.{Say}
+use Rattle.two_phase.specs.declared.step.Say.TheVariants.{Prepare, Commit, Abort}
+use Rattle.two_phase.specs.declared.step.Step.{Step}
 use Rattle.monitor_2pc.specs.declared.coordinator.Wait.{Wait}
 use Rattle.monitor_2pc.specs.declared.coordinator.Wait.TheVariants.{Nothing, Votes, Acks}
 use Rattle.monitor_2pc.specs.Waiting.{phase_of}
-use Rattle.monitor_2pc.specs.Coordinators.{CoordinatorPlace, Voting, Acking, Tallies, waits, commits_all, aborts_all}
+use Rattle.two_phase.specs.Coordinators.{CoordinatorPlace, Voting, Acking, Tallies, waits, commits_all, aborts_all}
 use Rattle.monitor_2pc.specs.Tallying.{SaysOn}
 
 -- what is said on the first so many votes, of which none is missing

@@ -9,12 +9,12 @@ use Rattle.filter_table.specs.declared.decision.Decision.{Decision}
 use Rattle.filter_table.specs.declared.decision.Decision.TheVariants.{Committed, Refused}
 use Rattle.monitor_2pc.specs.declared.coordinator.Wait.{Wait}
 use Rattle.monitor_2pc.specs.declared.coordinator.Wait.TheVariants.{Votes}
-use Rattle.monitor_2pc.specs.declared.step.Say.TheVariants.{Commit, Abort}
-use Rattle.monitor_2pc.specs.declared.step.Step.{Step}
+use Rattle.two_phase.specs.declared.step.Say.TheVariants.{Commit, Abort}
+use Rattle.two_phase.specs.declared.step.Step.{Step}
 use Rattle.monitor_2pc.specs.declared.tally.Tally.{Tally}
 use Rattle.monitor_2pc.specs.declared.tally.Tally.TheVariants.{Open, AllYes, Against}
 use Rattle.monitor_2pc.specs.Places.{after_commit}
-use Rattle.monitor_2pc.specs.Coordinators.{Phase, Idle, Voting, Acking, CoordinatorPlace, CoordinatorState, coordinator_place, StagedByPhase, Tallies, waits, commits_all, aborts_all, Hears, with_decided, step, veto_by}
+use Rattle.two_phase.specs.Coordinators.{Phase, Idle, Voting, Acking, CoordinatorPlace, CoordinatorState, coordinator_place, StagedByPhase, Tallies, waits, commits_all, aborts_all, Hears, with_decided, step, veto_by}
 use Rattle.monitor_2pc.specs.Tallying.{Tallied}
 use Rattle.monitor_2pc.specs.Waiting.{phase_of, KeepsDecided}
 use Rattle.monitor_2pc.proofs.Starts.{shown_by, placed}

@@ -5,11 +5,11 @@ use Rattle.filter_table.specs.declared.operation.StageFault.{StageFault}
 use Rattle.table_replica.specs.Shown.{ReplicaState}
 use Rattle.filter_table.specs.Staging.{CannotStage}
 use Rattle.filter_table.specs.Tables.{Allowed}
-use Rattle.monitor_2pc.specs.declared.step.Say.{Say}
-use Rattle.monitor_2pc.specs.declared.step.Say.TheVariants.{Prepare}
-use Rattle.monitor_2pc.specs.declared.step.StartFault.{StartFault}
-use Rattle.monitor_2pc.specs.declared.step.StartFault.TheVariants.{NotIdle, Spent, NoneWaiting}
-use Rattle.monitor_2pc.specs.Coordinators.{CoordinatorState, Idle}
+use Rattle.two_phase.specs.declared.step.Say.{Say}
+use Rattle.two_phase.specs.declared.step.Say.TheVariants.{Prepare}
+use Rattle.two_phase.specs.declared.step.StartFault.{StartFault}
+use Rattle.two_phase.specs.declared.step.StartFault.TheVariants.{NotIdle, Spent, NoneWaiting}
+use Rattle.two_phase.specs.Coordinators.{CoordinatorState, Idle}
 
 abbrev pub CannotStart : CoordinatorState → StartFault → Type 0
 CannotStart own NotIdle = own.phase ≢ Idle

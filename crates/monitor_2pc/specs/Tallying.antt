@@ -3,11 +3,11 @@
 use Rattle.std.specs.Prelude.{◌≡◌, ◌≢◌, ℕ, Option, Some, None, List, slice_get}
 use Rattle.filter_table.specs.declared.decision.Vote.{Vote}
 use Rattle.filter_table.specs.declared.decision.Vote.TheVariants.{Yes}
-use Rattle.monitor_2pc.specs.declared.step.Say.{Say}
-use Rattle.monitor_2pc.specs.declared.step.Say.TheVariants.{Prepare, Commit, Abort}
+use Rattle.two_phase.specs.declared.step.Say.{Say}
+use Rattle.two_phase.specs.declared.step.Say.TheVariants.{Prepare, Commit, Abort}
 use Rattle.monitor_2pc.specs.declared.tally.Tally.{Tally}
 use Rattle.monitor_2pc.specs.declared.tally.Tally.TheVariants.{Open, AllYes, Against}
-use Rattle.monitor_2pc.specs.Coordinators.{LeastNo}
+use Rattle.two_phase.specs.Coordinators.{LeastNo}
 
 abbrev pub Tallied : List (Option Vote) → Tally → Type 0
 Tallied votes Open = (i : ℕ) × (slice_get votes i ≡ Some None)

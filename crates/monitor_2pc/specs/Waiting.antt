@@ -5,7 +5,7 @@ use Rattle.filter_table.specs.declared.decision.Vote.{Vote}
 use Rattle.filter_table.specs.declared.decision.Decision.{Decision}
 use Rattle.monitor_2pc.specs.declared.coordinator.Wait.{Wait}
 use Rattle.monitor_2pc.specs.declared.coordinator.Wait.TheVariants.{Nothing, Votes, Acks}
-use Rattle.monitor_2pc.specs.Coordinators.{Phase, Idle, Voting, Acking}
+use Rattle.two_phase.specs.Coordinators.{Phase, Idle, Voting, Acking}
 
 abbrev pub phase_of : Wait → List (Option Vote) → List Bool → Phase
 phase_of Nothing votes acks = Idle

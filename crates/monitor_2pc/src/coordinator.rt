@@ -4,21 +4,20 @@ ghost use Rattle.std.specs.Prelude.{◌≡◌, ◌+◌, ◌-◌, ◌<◌, ◌≤
 ghost use Rattle.std.proofs.Common.{replicate};
 ghost use Rattle.filter_table.specs.declared.operation.Op.{Op as GhostOp};
 ghost use Rattle.filter_table.specs.Tables.{TableState as GhostState, after, made};
-ghost use Rattle.monitor_2pc.specs.declared.step.Step.{Step as GhostStep};
+ghost use Rattle.two_phase.specs.declared.step.Step.{Step as GhostStep};
 ghost use Rattle.filter_table.specs.declared.decision.Decision.TheVariants.{Committed, Refused};
-ghost use Rattle.monitor_2pc.specs.declared.step.Say.TheVariants.{Abort};
+ghost use Rattle.two_phase.specs.declared.step.Say.TheVariants.{Abort};
 ghost use Rattle.monitor_2pc.specs.Places.{after_commit};
-ghost use Rattle.monitor_2pc.specs.Coordinators.{CoordinatorState, CoordinatorPlace, Requests, Idle, Acking, IsVoting, coordinator_place, no_requests, StagedByPhase, CanStart, Starts, StartsFor, CanSubmit, with_waiting, AwaitsVote, Hears, with_decided, AwaitsAck, HearsAck, reply_of, veto_of, veto_by, step};
+ghost use Rattle.two_phase.specs.Coordinators.{CoordinatorState, CoordinatorPlace, Requests, Idle, Acking, IsVoting, coordinator_place, no_requests, StagedByPhase, CanStart, Starts, StartsFor, CanSubmit, with_waiting, AwaitsVote, Hears, with_decided, AwaitsAck, HearsAck, reply_of, veto_of, veto_by, step};
 ghost use Rattle.monitor_2pc.specs.Starting.{CannotStart, CannotStartFor, WasStaged, asked_by};
 
-use crate::most::MOST_CORES;
-use crate::step::{Say, StartFault, Step, Stranger};
 use crate::tally::{AckList, Tally, VoteList};
 use crate::waiting::WaitingList;
 use filter_table::{Decision, Op, StageFault, Veto, Vote};
 use std::alloc::{AllocError, Global};
 use std::marker::Model;
 use table_replica::Replica;
+use two_phase::{MOST_CORES, Say, StartFault, Step, Stranger};
 
 /// What core 0 waits for.
 #[derive(Clone, Copy, PartialEq, Eq)]
@@ -57,7 +56,7 @@ impl Drop for Coordinator {
 
 impl Model for Coordinator {
     ghost use Rattle.std.specs.Prelude.{◌≡◌, length};
-    ghost use Rattle.monitor_2pc.specs.Coordinators.{CoordinatorState};
+    ghost use Rattle.two_phase.specs.Coordinators.{CoordinatorState};
     ghost use Rattle.monitor_2pc.specs.Waiting.{phase_of, KeepsDecided};
 
     ghost Value = { CoordinatorState };

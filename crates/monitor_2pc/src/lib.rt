@@ -17,14 +17,11 @@
 #![tactic(auto)]
 
 mod coordinator;
-mod most;
 mod participant;
-mod step;
 mod tally;
 mod waiting;
 
 pub use coordinator::{Coordinator, veto_of};
 pub use monitor_messages::{Decision, DecodeFault, Message, Veto, Vote, decode, encode};
-pub use most::{DEFAULT_MOST_CORES, MOST_CORES};
 pub use participant::Participant;
-pub use step::{Say, StartFault, Step, Stranger};
+pub use two_phase::{DEFAULT_MOST_CORES, MOST_CORES, Say, StartFault, Step, Stranger};

@@ -7,15 +7,15 @@ ghost use Rattle.filter_table.specs.declared.operation.StageFault.TheVariants.{R
 ghost use Rattle.filter_table.specs.declared.decision.Vote.TheVariants.{Yes};
 ghost use Rattle.filter_table.specs.declared.operation.OpFault.{OpFault as GhostFault};
 ghost use Rattle.monitor_messages.specs.declared.message.Message.TheVariants.{Prepare, Commit, Abort, Submit};
-ghost use Rattle.monitor_2pc.specs.Participants.{ParticipantState, Casts, staged_by, place_of, StagedByVote, Answers, commits, Fits};
+ghost use Rattle.two_phase.specs.Participants.{ParticipantState, Casts, staged_by, place_of, StagedByVote, Answers, commits, Fits};
 ghost use Rattle.monitor_2pc.specs.Places.{after_commit};
 
-use crate::step::Stranger;
 use filter_table::{Decision, Load, Op, StageFault, Vote};
 use monitor_messages::Message;
 use std::alloc::Global;
 use std::marker::Model;
 use table_replica::{Code, Replica};
+use two_phase::Stranger;
 
 /// A core other than core 0 in the protocol: its last number, its vote while it awaits the outcome, and whether it has a
 /// request outstanding.

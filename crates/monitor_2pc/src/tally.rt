@@ -6,11 +6,10 @@ ghost use Rattle.std.specs.List.{list_all};
 ghost use Rattle.std.proofs.Common.{replicate};
 ghost use Rattle.monitor_2pc.specs.Tallying.{Tallied, SaysOn};
 
-use crate::most::MOST_CORES;
-use crate::step::Say;
 use filter_table::Vote;
 use std::alloc::{AllocError, Global};
 use std::marker::Model;
+use two_phase::{MOST_CORES, Say};
 
 /// What votes come to.
 #[derive(Clone, Copy)]
@@ -42,7 +41,7 @@ impl Drop for VoteList {
 impl Model for VoteList {
     ghost use Rattle.std.specs.Prelude.{◌≡◌, ◌<◌, List, Option, length};
     ghost use Rattle.filter_table.specs.declared.decision.Vote.{Vote as GhostVote};
-    ghost use Rattle.monitor_2pc.specs.declared.most.TheConstants.{MOST_CORES};
+    ghost use Rattle.two_phase.specs.declared.most.TheConstants.{MOST_CORES};
     ghost use Rattle.monitor_2pc.specs.Counting.{votes_missing};
 
     ghost Value = { List (Option GhostVote) };

@@ -5,7 +5,7 @@ use Rattle.std.proofs.lemmas.List.{append-nil}
 use Rattle.filter_table.specs.Limits.{TableLimits}
 use Rattle.filter_table.specs.declared.operation.Op.{Op}
 use Rattle.rx_queue.specs.declared.job.Job.{Job}
-use Rattle.monitor_2pc.specs.Coordinators.{Idle}
+use Rattle.two_phase.specs.Coordinators.{Idle}
 use Rattle.world_events.specs.declared.event.Done.{Done}
 use Rattle.world_model.specs.Decisions.{Delivers}
 use Rattle.world_histories.specs.declared.history.Stamped.{Stamped}

@@ -4,7 +4,7 @@ use Rattle.std.specs.Prelude.{is_ok, IfOk}
 use Rattle.filter_table.specs.declared.operation.Op.{Op}
 use Rattle.world_events.specs.declared.event.Event.{Event}
 use Rattle.world_events.specs.declared.event.Event.TheVariants.{StartFor}
-use Rattle.world_core.specs.Refusals.{waiting_at}
+use Rattle.world_model.specs.Refusals.{waiting_at}
 use Rattle.world_events.specs.declared.event.Answer.{Answer}
 use Rattle.world_model.specs.Worlds.{World}
 use Rattle.world_events.specs.declared.fault.WorldFault.{WorldFault}

@@ -13,7 +13,7 @@ use Rattle.world_events.specs.declared.fault.WorldFault.{WorldFault}
 use Rattle.world_events.specs.Memory.{LacksMemory, HadMemory}
 use Rattle.world_model.specs.Worlds.{World}
 use Rattle.world_model.proofs.RunLaws.{run_agrees}
-use Rattle.world_core.specs.Refusals.{Reached, waiting_at}
+use Rattle.world_model.specs.Refusals.{Reached, waiting_at}
 use Rattle.sim_lines.specs.Events.{event_line}
 use Rattle.sim_engine.specs.declared.requests.PendingRequest.{PendingRequest}
 use Rattle.sim_engine.specs.Settling.{most_left}

@@ -9,7 +9,7 @@ use Rattle.world_events.specs.declared.event.Event.{Event}
 use Rattle.world_events.specs.declared.event.Event.TheVariants.{StartFor}
 use Rattle.world_events.specs.Memory.{LacksMemory, HadMemory}
 use Rattle.world_model.specs.Worlds.{World, version_at}
-use Rattle.world_core.specs.Refusals.{Reached}
+use Rattle.world_model.specs.Refusals.{Reached}
 use Rattle.sim_lines.specs.Events.{event_line}
 use Rattle.sim_lines.specs.Tables.{table_text}
 use Rattle.mk_script.specs.declared.script.Item.{Item}

@@ -4,7 +4,7 @@ use Rattle.std.specs.Prelude.{option_to_list}
 use Rattle.filter_table.specs.declared.operation.Op.{Op}
 use Rattle.monitor_messages.specs.declared.message.Message.{Message}
 use Rattle.monitor_messages.specs.declared.message.Message.TheVariants as message
-use Rattle.monitor_2pc.specs.Coordinators.{Requests, Phase, Idle, Voting, Acking, requests_at}
+use Rattle.two_phase.specs.Coordinators.{Requests, Phase, Idle, Voting, Acking, requests_at}
 use Rattle.world_events.specs.declared.event.Event.{Event}
 use Rattle.world_events.specs.declared.event.Event.TheVariants.{StartFor, Take}
 use Rattle.world_events.specs.declared.event.Answer.{Answer}
@@ -12,7 +12,7 @@ use Rattle.world_events.specs.declared.event.Answer.TheVariants.{Prepared, Decid
 use Rattle.world_events.specs.declared.event.Done.{Done}
 use Rattle.world_model.specs.Cases.{Outgoing, nothing, to_all, to_one, outgoing, sent_up, raised, TakesUpAt}
 use Rattle.world_model.specs.Worlds.{Peer, World, newest, send, sent_out, sent_to_one, gave, HappensStart, HappensStartFor, HappensSubmit, HappensUp, HappensDown, Happens}
-use Rattle.world_core.specs.Refusals.{IsNext, Settles, waiting_at}
+use Rattle.world_model.specs.Refusals.{IsNext, Settles, waiting_at}
 use Rattle.sim_engine.specs.declared.requests.PendingRequest.{PendingRequest}
 use Rattle.sim_engine.specs.Ways.{event_of, way_of}
 use Rattle.sim_engine.specs.Simulations.{Simulation, BeginsNext, begun, Next, waits, asked, Quiets}

@@ -13,7 +13,7 @@ use Rattle.world_events.specs.declared.fault.WorldFault.TheVariants.{NoSuchCore,
 use Rattle.world_events.specs.Memory.{LacksMemory, HadMemory}
 use Rattle.world_model.specs.Worlds.{World, boot, Happens}
 use Rattle.world_model.proofs.Runs.{runs_more}
-use Rattle.world_core.specs.Refusals.{WorldRefuses, StandsFirst, Reached, AllQuiet, Settles}
+use Rattle.world_model.specs.Refusals.{WorldRefuses, StandsFirst, Reached, AllQuiet, Settles}
 use Rattle.world_progress.specs.Progress.{DoneOrRefused}
 use Rattle.world_progress.proofs.Told.{event_told}
 use Rattle.world_progress.proofs.Ends.{run_settles}

@@ -6,7 +6,7 @@ use Rattle.std.proofs.lemmas.Option.{slice_get_past}
 use Rattle.filter_table.specs.Limits.{TableLimits}
 use Rattle.world_model.specs.Worlds.{Peer, World, version_at}
 use Rattle.world_model.proofs.Known.{run_known}
-use Rattle.world_core.specs.Refusals.{Reached, waiting_at}
+use Rattle.world_model.specs.Refusals.{Reached, waiting_at}
 use Rattle.sim_engine.specs.Simulations.{NoneWaits}
 
 past_peers : (peers : List Peer) (entry : ℕ) → option_map (λ p. p.version) (slice_get peers entry) ≡ None → length peers ≤ entry

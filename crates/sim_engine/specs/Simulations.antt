@@ -12,7 +12,7 @@ use Rattle.world_events.specs.declared.event.Done.{Done}
 use Rattle.world_model.specs.Worlds.{World, Happens, version_at}
 use Rattle.world_events.specs.declared.fault.WorldFault.{WorldFault}
 use Rattle.world_events.specs.declared.fault.WorldFault.TheVariants.{NoMemory}
-use Rattle.world_core.specs.Refusals.{WorldRefuses, Settles, AllQuiet, waiting_at}
+use Rattle.world_model.specs.Refusals.{WorldRefuses, Settles, AllQuiet, waiting_at}
 use Rattle.sim_lines.specs.Events.{event_line, done_line}
 use Rattle.sim_lines.specs.Tables.{table_text}
 use Rattle.mk_script.specs.declared.script.Item.{Item}

@@ -5,7 +5,7 @@ ghost use Rattle.engine_io.specs.Devices.{StopsWriting, Writes};
 ghost use Rattle.engine_io.specs.Reading.{IsPrintFault};
 ghost use Rattle.std.specs.List.{All};
 ghost use Rattle.mk_script.specs.Limits.{EntersBelow, IsLimited};
-ghost use Rattle.world_core.specs.Refusals.{IsShortEvent};
+ghost use Rattle.world_model.specs.Refusals.{IsShortEvent};
 ghost use Rattle.mk_script.specs.declared.script.Item.{Item as GhostItem};
 ghost use Rattle.sim_engine.specs.declared.requests.PendingRequest.{PendingRequest as GhostRequest};
 ghost use Rattle.sim_engine.specs.Writing.{Wrote};

@@ -8,7 +8,7 @@ ghost use Rattle.filter_table.specs.Tables.{HasShortProgram};
 ghost use Rattle.filter_table.specs.declared.operation.Op.{Op as GhostOp};
 ghost use Rattle.world_events.specs.declared.event.Answer.{Answer as GhostAnswer};
 ghost use Rattle.world_events.specs.declared.fault.WorldFault.{WorldFault as GhostFault};
-ghost use Rattle.world_core.specs.Refusals.{IsShortEvent, waiting_at};
+ghost use Rattle.world_model.specs.Refusals.{IsShortEvent, waiting_at};
 ghost use Rattle.sim_lines.specs.Events.{event_line, done_line};
 ghost use Rattle.sim_engine.specs.Keeping.{IsFirst};
 ghost use Rattle.sim_engine.specs.Simulations.{Tells, Begins, Quiets, BeginsNext, NoneWaits, SettlesAll, Shows, no_core_line, nothing_line, sim};

@@ -2,7 +2,7 @@
 
 ghost use Rattle.std.specs.Prelude.{◌≡◌, IfOk};
 ghost use Rattle.filter_table.specs.Tables.{HasShortProgram};
-ghost use Rattle.world_core.specs.Refusals.{IsShortEvent};
+ghost use Rattle.world_model.specs.Refusals.{IsShortEvent};
 ghost use Rattle.sim_engine.specs.Ways.{home_of, event_of, way_of};
 
 use filter_table::Op;

@@ -7,7 +7,7 @@ use Rattle.filter_table.proofs.Lists.{in_head, in_tail}
 use Rattle.installed_filters.specs.Installed.{Installed, AreHeldBy}
 use Rattle.installed_filters.specs.Lent.{listed, held_listed}
 use Rattle.table_replica.specs.Lent.{held_filters}
-pub use Rattle.installed_filters.proofs.Positions.{get_front, last, split, get_at}
+pub use Rattle.filter_table.proofs.Positions.{get_front, last, split, get_at}
 
 pub same_held : (caps : List Cap) (now : List Installed) → AreHeldBy caps now → held_listed now ≡ held_filters caps (listed now)
 same_held caps [] held = refl

@@ -1,7 +1,7 @@
 //! A list of events done again, each with its answer.
 
 ghost use Rattle.std.specs.Prelude.{IsTrue};
-ghost use Rattle.world_core.specs.Refusals.{IsShortEvent};
+ghost use Rattle.world_model.specs.Refusals.{IsShortEvent};
 
 use crate::words::is_short;
 use std::alloc::Global;

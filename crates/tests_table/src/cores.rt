@@ -19,7 +19,7 @@ pub(crate) struct Core0 {
 }
 
 impl Model for Core0 {
-    ghost use Rattle.monitor_2pc.specs.Coordinators.{CoordinatorState, StagedByPhase};
+    ghost use Rattle.two_phase.specs.Coordinators.{CoordinatorState, StagedByPhase};
 
     ghost Value = { CoordinatorState };
 
@@ -72,7 +72,7 @@ pub(crate) struct Peer {
 }
 
 impl Model for Peer {
-    ghost use Rattle.monitor_2pc.specs.Participants.{ParticipantState, StagedByVote};
+    ghost use Rattle.two_phase.specs.Participants.{ParticipantState, StagedByVote};
 
     ghost Value = { ParticipantState };
 

@@ -25,7 +25,7 @@ use Rattle.mk_script.specs.Threads.{received}
 use Rattle.run_engine.specs.Work.{jobs_of}
 use Rattle.run_engine.specs.Showing.{ShowsLeft, left_lines}
 use Rattle.trace_text.proofs.EventLemmas.{event_text, left_text, event_line_is, left_line_is}
-use Rattle.table_replica.proofs.Shared.{get_at}
+use Rattle.filter_table.proofs.Positions.{get_at}
 
 -- Sums over cores
 

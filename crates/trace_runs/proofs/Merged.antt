@@ -29,7 +29,7 @@ use Rattle.world_events.specs.Memory.{WasNotRefused}
 use Rattle.trace_runs.specs.Repeats.{BeginInOrder, PerformsTrace, DiffersByMemory, Repeats, same, short_of_memory, RanScript, CanRepeatMerged, ShowsTrace}
 use Rattle.trace_runs.proofs.Again.{can_repeat}
 use Rattle.trace_runs.proofs.Whatever.{repeats}
-use Rattle.table_replica.proofs.Shared.{get_at}
+use Rattle.filter_table.proofs.Positions.{get_at}
 
 -- an event that is listed is as it was, but for what it tells of memory
 record SameButShort (event event' : Event) : Type 0 where

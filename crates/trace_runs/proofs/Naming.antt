@@ -30,7 +30,7 @@ use Rattle.run_engine.specs.Work.{jobs_of}
 use Rattle.trace_text.specs.Traces.{IsNamedIn, IsNamed}
 use Rattle.trace_text.proofs.NameLemmas.{named}
 use Rattle.std.proofs.lemmas.Option.{slice_get_within}
-use Rattle.table_replica.proofs.Shared.{get_at}
+use Rattle.filter_table.proofs.Positions.{get_at}
 
 -- Lists
 

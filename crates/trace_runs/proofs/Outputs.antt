@@ -15,7 +15,7 @@ use Rattle.world_events.specs.declared.fault.WorldFault.{WorldFault}
 use Rattle.world_events.specs.declared.fault.WorldFault.TheVariants.{NoSuchCore, Nothing, NotReady, NotIdle, Spent, Outstanding, NoneWaiting, NoMemory}
 use Rattle.world_model.specs.Worlds.{Peer, World, boot}
 use Rattle.world_model.proofs.Known.{run_known}
-use Rattle.world_core.specs.Refusals.{Reached, Settles, WorldRefuses, channel}
+use Rattle.world_model.specs.Refusals.{Reached, Settles, WorldRefuses, channel}
 use Rattle.sim_lines.specs.Events.{event_line, done_line, event_words, told_words}
 use Rattle.mk_script.specs.declared.script.Script.{Script}
 use Rattle.mk_script.specs.Limits.{HasLimits}

@@ -6,7 +6,7 @@ use Rattle.monitor_messages.specs.declared.message.Message.{Message}
 use Rattle.monitor_messages.specs.declared.message.Message.TheVariants as message
 use Rattle.filter_table.specs.declared.decision.Vote.{Vote}
 use Rattle.filter_table.specs.declared.decision.Vote.TheVariants as vote
-use Rattle.monitor_2pc.specs.Participants.{ParticipantPlace, Answers, Casts}
+use Rattle.two_phase.specs.Participants.{ParticipantPlace, Answers, Casts}
 use Rattle.world_events.specs.declared.event.Event.{Event}
 use Rattle.world_events.specs.declared.event.Event.TheVariants.{Start, Submit, StartFor, Take, Rx}
 use Rattle.world_events.specs.declared.event.Answer.{Answer}

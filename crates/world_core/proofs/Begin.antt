@@ -4,7 +4,7 @@ use Rattle.std.specs.Prelude.{option_and_then, Result, Ok, Err, IfOk, OnOk, OnEr
 use Rattle.std.proofs.lemmas.List.{length-map}
 use Rattle.filter_table.specs.declared.operation.Op.{Op}
 use Rattle.monitor_messages.specs.declared.message.Message.{Message}
-use Rattle.monitor_2pc.specs.Coordinators.{CanStart}
+use Rattle.two_phase.specs.Coordinators.{CanStart}
 use Rattle.world_events.specs.declared.event.Event.TheVariants.{Start, StartFor}
 use Rattle.world_model.specs.Cases.{outgoing, StartsAt, StartsForAt}
 use Rattle.world_model.specs.Worlds as worlds
@@ -16,13 +16,13 @@ use Rattle.world_core.specs.declared.core0.LoggedCore0.{LoggedCore0}
 use Rattle.world_core.specs.declared.peer.Peer.{Peer}
 use Rattle.world_core.specs.LoggedCore0s.{Core0IsKept, Core0Moves, Core0Starts, Core0StartsFor}
 use Rattle.world_core.specs.Keeping.{seen_peer, seen_world, CoreIsKept, WorldIsKept, EachMatches, Readied}
-use Rattle.world_core.specs.Refusals.{waiting_at}
+use Rattle.world_model.specs.Refusals.{waiting_at}
 use Rattle.world_core.specs.Sending.{SentOut}
 use Rattle.world_core.proofs.Carried.{readied_seen}
 use Rattle.core_steps.proofs.Tables.{idle_phase}
 use Rattle.world_core.proofs.Moving.{alike_sent, moved_seen, moved_kept}
 use Rattle.std.proofs.lemmas.Option.{slice_get_within}
-use Rattle.table_replica.proofs.Shared.{get_at}
+use Rattle.filter_table.proofs.Positions.{get_at}
 
 -- The other cores after messages were made ready
 

@@ -7,8 +7,8 @@ use Rattle.filter_table.specs.Limits.{TableLimits}
 use Rattle.filter_table.specs.Tables.{empty_table, table}
 use Rattle.table_replica.specs.Shown.{ReplicaState}
 use Rattle.monitor_messages.specs.declared.message.Message.{Message}
-use Rattle.monitor_2pc.specs.declared.most.TheConstants.{MOST_CORES}
-use Rattle.monitor_2pc.specs.Coordinators.{CoordinatorState, Idle, no_requests}
+use Rattle.two_phase.specs.declared.most.TheConstants.{MOST_CORES}
+use Rattle.two_phase.specs.Coordinators.{CoordinatorState, Idle, no_requests}
 use Rattle.world_core.specs.declared.core0.LoggedCore0.{LoggedCore0}
 use Rattle.world_core.specs.declared.peer.Peer.{Peer}
 use Rattle.world_model.specs.Worlds as worlds

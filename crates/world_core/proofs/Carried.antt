@@ -8,7 +8,7 @@ use Rattle.std.proofs.lemmas.List.{length-map}
 use Rattle.world_model.specs.Worlds as worlds
 use Rattle.world_core.specs.Keeping.{seen_peer, EachMatches, Readied, IsSent, HasRoom, RoomAt, RoomBelow, RoomFrom}
 use Rattle.world_model.proofs.Lists.{get-set_same, get-set_other, length-slice_set, get_end, get_map, same_or_not}
-use Rattle.table_replica.proofs.Shared.{get_front, get_at}
+use Rattle.filter_table.proofs.Positions.{get_front, get_at}
 
 -- the core at a place is now this one
 pub set_at : {P : Type 0} (xs : List P) (i k : ℕ) (q x : P) → i < length xs → slice_get (slice_set xs i q) k ≡ Some x → ((i ≡ k) × (x ≡ q)) ⊎ ((i ≡ k → ⊥) × (slice_get xs k ≡ Some x))

@@ -10,7 +10,7 @@ use Rattle.world_model.proofs.RunLaws.{run_no_stranger}
 use Rattle.core_steps.specs.Core0Steps.{core0_place}
 use Rattle.world_core.specs.declared.core0.LoggedCore0.{LoggedCore0}
 use Rattle.world_core.specs.declared.peer.Peer.{Peer}
-use Rattle.world_core.specs.Refusals.{channel}
+use Rattle.world_model.specs.Refusals.{channel}
 use Rattle.world_core.specs.Keeping.{seen_peer, seen_world, WorldIsKept, GivesUp}
 use Rattle.world_core.proofs.Keeping.{first_rest}
 use Rattle.filter_table.proofs.Lists.{map-get}

@@ -6,10 +6,10 @@ use Rattle.filter_table.specs.Tables.{TableState, table}
 use Rattle.filter_table.specs.declared.decision.Vote.{Vote}
 use Rattle.monitor_messages.specs.declared.message.Message.{Message}
 use Rattle.monitor_messages.specs.declared.message.Message.TheVariants as message
-use Rattle.monitor_2pc.specs.declared.step.Step.{Step}
+use Rattle.two_phase.specs.declared.step.Step.{Step}
 use Rattle.monitor_2pc.specs.Places.{after_commit}
-use Rattle.monitor_2pc.specs.Coordinators.{CoordinatorPlace, Requests, refused, unstaged, alone, prepared, Tallies, waits, commits_all, aborts_all}
-use Rattle.monitor_2pc.specs.Coordinators as coordinators
+use Rattle.two_phase.specs.Coordinators.{CoordinatorPlace, Requests, refused, unstaged, alone, prepared, Tallies, waits, commits_all, aborts_all}
+use Rattle.two_phase.specs.Coordinators as coordinators
 use Rattle.world_events.specs.declared.event.Answer.{Answer}
 use Rattle.world_model.specs.Cases.{joined, TakesUpAt}
 use Rattle.core_steps.specs.declared.core0.Told.{Told}

@@ -12,8 +12,8 @@ use Rattle.world_core.specs.declared.core0.LoggedCore0.{LoggedCore0}
 use Rattle.world_core.specs.declared.peer.Peer.{Peer}
 use Rattle.world_model.specs.Worlds as worlds
 use Rattle.world_channels.specs.Channels.{first_of}
-use Rattle.monitor_2pc.specs.Coordinators.{Idle}
-use Rattle.world_core.specs.Refusals.{channel, StandsFirst, WorldRefuses}
+use Rattle.two_phase.specs.Coordinators.{Idle}
+use Rattle.world_model.specs.Refusals.{channel, StandsFirst, WorldRefuses}
 use Rattle.world_core.specs.LoggedCore0s.{StartForRefuses}
 use Rattle.world_core.specs.Keeping.{seen_peer, seen_world, WorldIsKept, PeerCannotSubmit, PeerCannotTake, ChangesOne, Submits, Takes, ReadyToTake}
 use Rattle.world_core.specs.Shown.{ShowsReplica}
@@ -21,7 +21,7 @@ use Rattle.world_core.proofs.WorldKeeping.{peer_shows, no_version, no_core}
 use Rattle.world_core.proofs.PeerKeeping.{seen_same, submit_happens, submit_kept, awaits_oldest, take_happens, take_kept}
 use Rattle.std.proofs.lemmas.Option.{slice_get-get_or, slice_get_past}
 use Rattle.filter_table.proofs.Lists.{map-get}
-use Rattle.table_replica.proofs.Shared.{get_at}
+use Rattle.filter_table.proofs.Positions.{get_at}
 
 -- Entries
 

@@ -2,12 +2,10 @@ pub mod Keeping
 pub mod WorldKeeping
 pub mod PeerKeeping
 pub mod EventKeeping
-pub mod Standing
 pub mod BootKeeping
 pub mod Core0Keeping
 pub mod Core0Moves
 pub mod Carried
 pub mod Begin
 pub mod Moving
-pub mod Loads
 pub mod Settled

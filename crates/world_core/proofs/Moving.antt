@@ -7,7 +7,7 @@ use Rattle.filter_table.specs.declared.operation.Op.{Op}
 use Rattle.filter_table.specs.Tables.{TableState, table}
 use Rattle.filter_table.proofs.Tables.{table_front}
 use Rattle.monitor_messages.specs.declared.message.Message.{Message}
-use Rattle.monitor_2pc.specs.declared.step.Step.{Step}
+use Rattle.two_phase.specs.declared.step.Step.{Step}
 use Rattle.world_events.specs.declared.event.Event.{Event}
 use Rattle.world_events.specs.declared.event.Event.TheVariants.{Take}
 use Rattle.world_events.specs.declared.event.Answer.{Answer}
@@ -33,7 +33,7 @@ use Rattle.world_core.proofs.Carried.{set_at, sent_seen}
 use Rattle.world_core.proofs.WorldKeeping.{no_core}
 use Rattle.std.proofs.lemmas.Option.{slice_get_within, slice_get_past}
 use Rattle.filter_table.proofs.Lists.{map-get}
-use Rattle.table_replica.proofs.Shared.{get_at}
+use Rattle.filter_table.proofs.Positions.{get_at}
 
 -- Lists that match at each place
 

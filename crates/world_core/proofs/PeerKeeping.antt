@@ -8,8 +8,8 @@ use Rattle.table_replica.specs.Shown.{ReplicaState}
 use Rattle.monitor_messages.specs.declared.message.Message.{Message}
 use Rattle.monitor_messages.specs.declared.message.Message.TheVariants as message
 use Rattle.monitor_2pc.specs.Places.{after_commit}
-use Rattle.monitor_2pc.specs.Coordinators.{CoordinatorPlace}
-use Rattle.monitor_2pc.specs.Participants.{ParticipantPlace, Answers}
+use Rattle.two_phase.specs.Coordinators.{CoordinatorPlace}
+use Rattle.two_phase.specs.Participants.{ParticipantPlace, Answers}
 use Rattle.world_events.specs.declared.event.Event.{Event}
 use Rattle.world_events.specs.declared.event.Event.TheVariants.{Submit, Take}
 use Rattle.world_events.specs.declared.event.Answer.{Answer}

@@ -1,7 +1,7 @@
 -- Settling, one take after another.
 use Rattle.std.proofs.Common.{◌≡◌, ◌≢◌, ◌++◌, ◌∷◌, ◌<◌, inr, ℕ, suc, false, Option, None, Some, List, [], slice_get, refl, ap, subst}
 use Rattle.std.specs.Prelude.{option_map, Result, Ok, Err, IfOk}
-use Rattle.monitor_2pc.specs.Coordinators.{Idle}
+use Rattle.two_phase.specs.Coordinators.{Idle}
 use Rattle.world_events.specs.declared.event.Event.TheVariants.{Take}
 use Rattle.world_events.specs.declared.event.Answer.{Answer}
 use Rattle.world_events.specs.declared.event.Done.{Done}
@@ -11,10 +11,10 @@ use Rattle.world_model.proofs.RunLaws.{run_agrees}
 use Rattle.world_model.proofs.Runs.{runs_append}
 use Rattle.world_events.specs.declared.fault.WorldFault.{WorldFault}
 use Rattle.world_events.specs.declared.fault.WorldFault.TheVariants.{NoSuchCore, Nothing, NotReady, NotIdle, Spent, Outstanding, NoneWaiting, NoMemory}
-use Rattle.world_core.specs.Refusals.{WorldRefuses, Reached, Extends, AllQuiet, IsNext, Settles}
-use Rattle.world_core.specs.Settling.{takes_left, NoneDown, IsTaken, TakenDown, TakenUp, TakenNext}
+use Rattle.world_model.specs.Refusals.{WorldRefuses, Reached, Extends, AllQuiet, IsNext, Settles}
+use Rattle.world_model.specs.Settling.{takes_left, NoneDown, IsTaken, TakenDown, TakenUp, TakenNext}
 use Rattle.filter_table.specs.Limits.{TableLimits}
-use Rattle.world_core.proofs.Loads.{next_leaves}
+use Rattle.world_model.proofs.Loads.{next_leaves}
 
 -- one take more
 pub settles_more : (w mid w' : World) (events : List Done) (done : Done) → Settles w events mid → IsTaken mid done w' → Settles w (events ++ done ∷ []) w'

@@ -6,7 +6,7 @@ use Rattle.filter_table.specs.declared.operation.Op.{Op}
 use Rattle.filter_table.specs.Tables.{TableState, table}
 use Rattle.monitor_messages.specs.declared.message.Message.{Message}
 use Rattle.monitor_messages.specs.declared.message.Message.TheVariants as message
-use Rattle.monitor_2pc.specs.declared.most.TheConstants.{MOST_CORES}
+use Rattle.two_phase.specs.declared.most.TheConstants.{MOST_CORES}
 use Rattle.monitor_2pc.specs.Places.{after_commit}
 use Rattle.world_events.specs.declared.event.Event.TheVariants.{Take}
 use Rattle.world_events.specs.declared.event.Answer.{Answer}

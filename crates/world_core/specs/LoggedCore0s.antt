@@ -14,7 +14,7 @@ use Rattle.core_steps.specs.Core0Steps.{BetweenSteps, CanBegin, Moves, Starts, S
 use Rattle.world_events.specs.declared.fault.WorldFault.{WorldFault}
 use Rattle.world_events.specs.declared.fault.WorldFault.TheVariants.{NoneWaiting, NoMemory}
 use Rattle.world_core.specs.declared.core0.LoggedCore0.{LoggedCore0}
-use Rattle.world_core.specs.Refusals.{waiting_at}
+use Rattle.world_model.specs.Refusals.{waiting_at}
 
 -- the operation under vote, if there is one
 abbrev pub begun_op : Option (Snapshot Op) → Option Op

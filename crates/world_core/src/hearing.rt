@@ -4,7 +4,7 @@ ghost use Rattle.std.specs.Prelude.{◌≡◌, Bool, Some, IfOk, OnErr, option_a
 ghost use Rattle.world_channels.specs.Channels.{first_of};
 ghost use Rattle.world_events.specs.declared.event.Event.TheVariants.{Take};
 ghost use Rattle.world_model.specs.Worlds as worlds;
-ghost use Rattle.world_core.specs.Refusals.{channel};
+ghost use Rattle.world_model.specs.Refusals.{channel};
 ghost use Rattle.world_core.specs.Keeping.{seen_world, WorldIsKept};
 
 use crate::core0::LoggedCore0;

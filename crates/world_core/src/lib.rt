@@ -5,7 +5,6 @@
 #![tactic(auto)]
 
 mod core0;
-mod fault;
 mod hearing;
 mod peer;
 mod sending;
@@ -13,8 +12,7 @@ mod settling;
 mod starting;
 mod world;
 
-pub use fault::BootFault;
 pub use filter_table::KeptList;
 pub use world::{World, WorldOver};
 pub use world_channels::{Channel, Lines, MessageLines, Messages};
-pub use world_events::{Answer, Done, Event, WorldFault};
+pub use world_events::{Answer, BootFault, Done, Event, WorldFault};

@@ -1,7 +1,7 @@
 //! Takes of messages until there is none.
 
 ghost use Rattle.std.specs.Prelude.{◌≡◌, ◌++◌, ◌+◌, ◌<◌, List, IfOk, OnOk, OnErr, length};
-ghost use Rattle.monitor_2pc.specs.Coordinators.{Idle};
+ghost use Rattle.two_phase.specs.Coordinators.{Idle};
 ghost use Rattle.world_events.specs.declared.event.Done.{Done as GhostDone};
 
 use crate::world::WorldOver;
@@ -10,8 +10,8 @@ use world_channels::Channel;
 use world_events::{Done, Event, WorldFault};
 
 impl<C: Channel> WorldOver<C> {
-    ghost use Rattle.world_core.specs.Refusals.{AllQuiet, Extends, Settles};
-    ghost use Rattle.world_core.specs.Settling.{NoneDown, TakenDown, TakenUp, TakenNext};
+    ghost use Rattle.world_model.specs.Refusals.{AllQuiet, Extends, Settles};
+    ghost use Rattle.world_model.specs.Settling.{NoneDown, TakenDown, TakenUp, TakenNext};
 
     /// Takes messages until all channels are empty: first one from core 0, the least receiver first, then one to core 0, the least
     /// sender first, looking anew after each. Each event is put into the list with its answer. Where memory is refused, the

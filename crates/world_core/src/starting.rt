@@ -2,7 +2,7 @@
 
 ghost use Rattle.std.specs.Prelude.{◌≡◌, ◌<◌, ◌≤◌, ℕ, IfOk, IfErr, OnErr, length};
 ghost use Rattle.filter_table.specs.declared.operation.Op.{Op as GhostOp};
-ghost use Rattle.monitor_2pc.specs.Coordinators.{CanStart};
+ghost use Rattle.two_phase.specs.Coordinators.{CanStart};
 ghost use Rattle.monitor_2pc.specs.Starting.{WasStaged};
 ghost use Rattle.core_steps.specs.Core0Steps.{core0_place, CanBegin, HasWaiting, start_sends, start_for_sends};
 ghost use Rattle.world_events.specs.declared.event.Event.TheVariants.{Start, StartFor};

@@ -7,7 +7,6 @@ ghost use Rattle.world_core.specs.Keeping.{seen_peer, PeerIsKept};
 ghost use Rattle.std.specs.Option.{option_copied};
 
 use crate::core0::LoggedCore0;
-use crate::fault::BootFault;
 use crate::hearing::hear;
 use crate::peer::{Peer, submit_at, take_at};
 use crate::starting::{begin, begin_for};
@@ -19,7 +18,7 @@ use std::alloc::{AllocError, Global};
 use std::marker::Model;
 use table_replica::Replica;
 use world_channels::{Channel, Messages};
-use world_events::{Answer, Event, WorldFault};
+use world_events::{Answer, BootFault, Event, WorldFault};
 
 /// The world of the cores over channels of one kind, seen as the log, the place of each core in the protocol and the messages
 /// under way.
@@ -59,7 +58,7 @@ impl<C: Channel> WorldOver<C> {
     ghost use Rattle.filter_table.specs.Limits.{TableLimits, default_limits};
     ghost use Rattle.filter_table.specs.Tables.{HasShortProgram};
     ghost use Rattle.world_events.specs.declared.event.Event.TheVariants.{Start, Submit, StartFor, Take, Rx};
-    ghost use Rattle.world_core.specs.Refusals.{channel, NoneStands, WorldRefuses, BootRefuses, Extends, HasCores, Reached, IsShortEvent, waiting_at};
+    ghost use Rattle.world_model.specs.Refusals.{channel, NoneStands, WorldRefuses, BootRefuses, Extends, HasCores, Reached, IsShortEvent, waiting_at};
     ghost use Rattle.world_model.specs.Agreement.{Agrees, Grows, IsSoundLog, NoStranger, TellsVersions};
     ghost use Rattle.world_model.specs.Decisions.{Delivers, DecidesRightly, RepliesRightly};
     ghost use Rattle.world_events.specs.declared.event.Done.{Done as GhostDone};

@@ -34,7 +34,7 @@ use Rattle.world_histories.proofs.Versions.{Held, split0, split_other, path0, pa
 use Rattle.world_histories.proofs.Owns.{whole_front}
 use Rattle.world_histories.proofs.Merge.{OneRun, one_run, run_of}
 use Rattle.std.proofs.lemmas.Option.{slice_get_within}
-use Rattle.table_replica.proofs.Shared.{get_at}
+use Rattle.filter_table.proofs.Positions.{get_at}
 
 -- An event in the run
 

@@ -44,7 +44,7 @@ use Rattle.world_histories.proofs.Replies.{begins_in, submits_in}
 use Rattle.world_histories.proofs.Merge.{OneRun, one_run}
 use Rattle.world_histories.proofs.Agreement.{in_the_run}
 use Rattle.std.proofs.lemmas.Option.{slice_get_within}
-use Rattle.table_replica.proofs.Shared.{get_front, get_at}
+use Rattle.filter_table.proofs.Positions.{get_front, get_at}
 
 -- A front of the run
 

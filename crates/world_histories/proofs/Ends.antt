@@ -3,8 +3,8 @@ use Rattle.std.proofs.Common.{◌≡◌, ℕ, suc, Bool, Some, List, [], ◌∷�
 use mathlib.Core.List.{IsPrefix}
 use Rattle.filter_table.specs.Limits.{TableLimits}
 use Rattle.filter_table.specs.declared.operation.Op.{Op}
-use Rattle.monitor_2pc.specs.Participants.{ParticipantPlace}
-use Rattle.monitor_2pc.specs.Coordinators.{CoordinatorPlace, Requests}
+use Rattle.two_phase.specs.Participants.{ParticipantPlace}
+use Rattle.two_phase.specs.Coordinators.{CoordinatorPlace, Requests}
 use Rattle.world_model.specs.Worlds.{Peer, World, boot}
 use Rattle.world_model.proofs.Known.{run_known}
 use Rattle.world_histories.specs.declared.history.Stamped.{Stamped}
@@ -14,7 +14,7 @@ use Rattle.world_histories.proofs.Clocks.{step0_clock, step_clock}
 use Rattle.world_histories.proofs.Merge.{OneRun, one_run, run_of}
 use Rattle.world_histories.proofs.Once.{runs_once}
 use Rattle.std.proofs.lemmas.Option.{slice_get_within}
-use Rattle.table_replica.proofs.Shared.{get_at}
+use Rattle.filter_table.proofs.Positions.{get_at}
 
 -- the clock after these events
 clock_of : ℕ → List Stamped → ℕ

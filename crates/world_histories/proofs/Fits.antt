@@ -15,7 +15,7 @@ use Rattle.world_model.proofs.RunLaws.{run_agrees, run_grows, version_within}
 use Rattle.world_histories.proofs.Lists.{less_or_same}
 use Rattle.std.proofs.lemmas.Option.{slice_get_within}
 use Rattle.filter_table.proofs.Lists.{map-get}
-use Rattle.table_replica.proofs.Shared.{get_at}
+use Rattle.filter_table.proofs.Positions.{get_at}
 
 abbrev pub FitsAll : ℕ → List ℕ → World → Type 0
 FitsAll budget budgets w = (core b known v : ℕ) → slice_get (budget ∷ budgets) core ≡ Some b → version_at w core ≡ Some known → v ≤ known → instructions (table w.limits w.log v) ≤ b

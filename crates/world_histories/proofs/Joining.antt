@@ -8,7 +8,7 @@ use Rattle.monitor_messages.specs.declared.message.Message.{Message}
 use Rattle.monitor_messages.specs.declared.message.Message.TheVariants as message
 use Rattle.filter_table.specs.declared.decision.Vote.{Vote}
 use Rattle.filter_table.specs.declared.decision.Vote.TheVariants as vote
-use Rattle.monitor_2pc.specs.Participants.{ParticipantPlace, Casts, Answers}
+use Rattle.two_phase.specs.Participants.{ParticipantPlace, Casts, Answers}
 use Rattle.world_events.specs.declared.event.Event.{Event}
 use Rattle.world_events.specs.declared.event.Event.TheVariants.{Take}
 use Rattle.world_events.specs.declared.event.Answer.{Answer}
@@ -28,7 +28,7 @@ use Rattle.world_histories.proofs.Seats.{Seat, SeatOf, Joint}
 use Rattle.world_histories.proofs.Leads.{Seats, Led, Stands, NotBefore, core0_step}
 use Rattle.world_histories.proofs.Owns.{Owned, own_step}
 use Rattle.std.proofs.lemmas.Option.{slice_get_within}
-use Rattle.table_replica.proofs.Shared.{get_at}
+use Rattle.filter_table.proofs.Positions.{get_at}
 
 -- A vote NoMemory is as it would be with the flag
 

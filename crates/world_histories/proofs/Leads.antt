@@ -6,8 +6,8 @@ use Rattle.filter_table.specs.Tables.{table}
 use Rattle.pcap_reader.specs.declared.capture.CapturedPacket.{CapturedPacket}
 use Rattle.monitor_messages.specs.declared.message.Message.{Message}
 use Rattle.monitor_messages.specs.declared.message.Message.TheVariants as message
-use Rattle.monitor_2pc.specs.declared.step.Step.{Step}
-use Rattle.monitor_2pc.specs.Coordinators.{CoordinatorPlace, Requests, Phase}
+use Rattle.two_phase.specs.declared.step.Step.{Step}
+use Rattle.two_phase.specs.Coordinators.{CoordinatorPlace, Requests, Phase}
 use Rattle.world_events.specs.declared.event.Event.{Event}
 use Rattle.world_events.specs.declared.event.Event.TheVariants.{Start, StartFor, Take, Rx}
 use Rattle.world_events.specs.declared.event.Answer.{Answer}
@@ -22,7 +22,7 @@ use Rattle.world_histories.proofs.Lists.{front_at, set_cases}
 use Rattle.world_histories.proofs.Clocks.{tick_after, first_sent_by}
 use Rattle.world_histories.proofs.Seats.{messages, Seat, SeatOf, got_out, seat_got}
 use Rattle.std.proofs.lemmas.Option.{slice_get_within}
-use Rattle.table_replica.proofs.Shared.{get_at}
+use Rattle.filter_table.proofs.Positions.{get_at}
 
 abbrev pub Seats : (ℕ → List Stamping) → (ℕ → List Stamping) → TableLimits → List Op → List Peer → List (List Stamped) → List OtherState → List Sending → List (ℕ × Stamping) → Type 0
 Seats rd ru limits log peers hs ends sent taken = (i : ℕ) (p : Peer) → slice_get peers i ≡ Some p → SeatOf rd ru i limits log p hs ends sent taken

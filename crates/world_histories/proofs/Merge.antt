@@ -16,7 +16,7 @@ use Rattle.world_histories.proofs.Rests.{rest_down, rest_up, rests_of}
 use Rattle.world_histories.proofs.Joining.{Next, joint0, joint_own, joint_first}
 use Rattle.std.proofs.lemmas.Option.{slice_get_within}
 use Rattle.filter_table.specs.Limits.{TableLimits}
-use Rattle.table_replica.proofs.Shared.{get_at}
+use Rattle.filter_table.proofs.Positions.{get_at}
 
 -- the rests of the histories, in one list that goes on with the run
 record Goes (rd ru : ℕ → List Stamping) (limits : TableLimits) (budget : ℕ) (budgets : List ℕ) (before : List Stamped) (all : List (List Stamped)) (end : Core0State) (ends : List OtherState) : Type 0 where

@@ -8,10 +8,10 @@ use Rattle.monitor_messages.specs.declared.message.Message.TheVariants as messag
 use Rattle.filter_table.specs.declared.decision.Vote.{Vote}
 use Rattle.filter_table.specs.declared.decision.Decision.{Decision}
 use Rattle.filter_table.specs.declared.decision.Decision.TheVariants.{Committed, Refused}
-use Rattle.monitor_2pc.specs.declared.step.Say.TheVariants as say
-use Rattle.monitor_2pc.specs.declared.step.Step.{Step}
-use Rattle.monitor_2pc.specs.Participants.{ParticipantPlace, Answers, staged_by}
-use Rattle.monitor_2pc.specs.Coordinators.{CoordinatorPlace, Requests, Idle, Voting, Acking, step, Starts, refused, unstaged, alone, prepared, Tallies, waits, commits_all, aborts_all, with_decided, phase_with, reply_at, requests_at, asker_after, reply_to}
+use Rattle.two_phase.specs.declared.step.Say.TheVariants as say
+use Rattle.two_phase.specs.declared.step.Step.{Step}
+use Rattle.two_phase.specs.Participants.{ParticipantPlace, Answers, staged_by}
+use Rattle.two_phase.specs.Coordinators.{CoordinatorPlace, Requests, Idle, Voting, Acking, step, Starts, refused, unstaged, alone, prepared, Tallies, waits, commits_all, aborts_all, with_decided, phase_with, reply_at, requests_at, asker_after, reply_to}
 use Rattle.world_events.specs.declared.event.Event.{Event}
 use Rattle.world_events.specs.declared.event.Event.TheVariants.{Start, Submit, StartFor, Take, Rx}
 use Rattle.world_events.specs.declared.event.Answer.{Answer}

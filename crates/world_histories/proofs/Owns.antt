@@ -10,8 +10,8 @@ use Rattle.filter_table.proofs.Tables.{table_front}
 use Rattle.pcap_reader.specs.declared.capture.CapturedPacket.{CapturedPacket}
 use Rattle.monitor_messages.specs.declared.message.Message.{Message}
 use Rattle.monitor_messages.specs.declared.message.Message.TheVariants as message
-use Rattle.monitor_2pc.specs.Participants.{ParticipantPlace, Answers}
-use Rattle.monitor_2pc.specs.Coordinators.{CoordinatorPlace}
+use Rattle.two_phase.specs.Participants.{ParticipantPlace, Answers}
+use Rattle.two_phase.specs.Coordinators.{CoordinatorPlace}
 use Rattle.world_events.specs.declared.event.Event.{Event}
 use Rattle.world_events.specs.declared.event.Event.TheVariants.{Submit, Take, Rx}
 use Rattle.world_events.specs.declared.event.Answer.{Answer}

@@ -33,7 +33,7 @@ use Rattle.world_histories.proofs.Requests.{submits_by, begins_of, submits_of, B
 use Rattle.world_histories.proofs.Merge.{one_run}
 use Rattle.world_histories.proofs.Agreement.{in_the_run}
 use Rattle.std.proofs.lemmas.Option.{slice_get_within}
-use Rattle.table_replica.proofs.Shared.{get_front, get_at}
+use Rattle.filter_table.proofs.Positions.{get_front, get_at}
 
 -- The flag of a Take is of no account here
 

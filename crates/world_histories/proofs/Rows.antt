@@ -11,8 +11,8 @@ use Rattle.filter_table.specs.declared.decision.Vote.{Vote}
 use Rattle.filter_table.specs.declared.decision.Vote.TheVariants as vote
 use Rattle.filter_table.specs.declared.decision.Decision.{Decision}
 use Rattle.filter_table.specs.declared.decision.Decision.TheVariants.{Committed}
-use Rattle.monitor_2pc.specs.declared.step.Say.TheVariants as say
-use Rattle.monitor_2pc.specs.Coordinators.{Phase, Idle, Voting, Acking, prepared, commits_all}
+use Rattle.two_phase.specs.declared.step.Say.TheVariants as say
+use Rattle.two_phase.specs.Coordinators.{Phase, Idle, Voting, Acking, prepared, commits_all}
 use Rattle.world_events.specs.declared.event.Event.{Event}
 use Rattle.world_events.specs.declared.event.Event.TheVariants.{Start, Take}
 use Rattle.world_events.specs.declared.event.Answer.{Answer}

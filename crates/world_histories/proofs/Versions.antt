@@ -8,8 +8,8 @@ use Rattle.filter_table.specs.Tables.{TableState, table}
 use Rattle.monitor_messages.specs.declared.message.Message.{Message}
 use Rattle.monitor_messages.specs.declared.message.Message.TheVariants as message
 use Rattle.filter_table.specs.declared.decision.Vote.TheVariants as vote
-use Rattle.monitor_2pc.specs.declared.step.Step.{Step}
-use Rattle.monitor_2pc.specs.Participants.{ParticipantPlace, Answers, commits}
+use Rattle.two_phase.specs.declared.step.Step.{Step}
+use Rattle.two_phase.specs.Participants.{ParticipantPlace, Answers, commits}
 use Rattle.world_events.specs.declared.event.Event.{Event}
 use Rattle.world_events.specs.declared.event.Event.TheVariants.{Start, Submit, StartFor, Take, Rx}
 use Rattle.world_events.specs.declared.event.Answer.{Answer}

@@ -9,7 +9,7 @@ use Rattle.filter_table.specs.Tables.{TableState}
 use Rattle.monitor_messages.specs.declared.message.Message.{Message}
 use Rattle.monitor_messages.specs.declared.message.Message.TheVariants as message
 use Rattle.filter_table.specs.declared.decision.Vote.{Vote}
-use Rattle.monitor_2pc.specs.Participants.{ParticipantPlace, Answers}
+use Rattle.two_phase.specs.Participants.{ParticipantPlace, Answers}
 use Rattle.world_events.specs.declared.event.Event.{Event}
 use Rattle.world_events.specs.declared.event.Event.TheVariants.{Submit, Take, Rx}
 use Rattle.world_events.specs.declared.event.Answer.{Answer}

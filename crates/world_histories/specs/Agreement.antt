@@ -5,7 +5,7 @@ use mathlib.Core.List.{IsPrefix}
 use Rattle.filter_table.specs.Limits.{TableLimits}
 use Rattle.filter_table.specs.declared.operation.Op.{Op}
 use Rattle.filter_table.specs.Tables.{table, instructions, Allowed}
-use Rattle.monitor_2pc.specs.Coordinators.{Idle}
+use Rattle.two_phase.specs.Coordinators.{Idle}
 use Rattle.world_model.specs.Agreement.{IsSoundLog}
 use Rattle.world_model.specs.Readings.{version_of}
 use Rattle.world_model.specs.Decisions.{Delivers}

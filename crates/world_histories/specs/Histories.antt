@@ -10,9 +10,9 @@ use Rattle.filter_table.specs.declared.operation.Op.{Op}
 use Rattle.filter_table.specs.Tables.{table}
 use Rattle.pcap_reader.specs.declared.capture.CapturedPacket.{CapturedPacket}
 use Rattle.monitor_messages.specs.declared.message.Message.{Message}
-use Rattle.monitor_2pc.specs.declared.step.Step.{Step}
-use Rattle.monitor_2pc.specs.Participants.{ParticipantPlace, at_first}
-use Rattle.monitor_2pc.specs.Coordinators.{CoordinatorPlace, Requests, no_requests}
+use Rattle.two_phase.specs.declared.step.Step.{Step}
+use Rattle.two_phase.specs.Participants.{ParticipantPlace, at_first}
+use Rattle.two_phase.specs.Coordinators.{CoordinatorPlace, Requests, no_requests}
 use Rattle.world_events.specs.declared.event.Event.{Event}
 use Rattle.world_events.specs.declared.event.Event.TheVariants.{Start, Submit, StartFor, Take, Rx}
 use Rattle.world_events.specs.declared.event.Answer.{Answer}

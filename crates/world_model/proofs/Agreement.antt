@@ -7,7 +7,7 @@ use Rattle.filter_table.proofs.Tables.{allowed_elsewhere}
 use Rattle.monitor_messages.specs.declared.message.Message.{Message}
 use Rattle.monitor_messages.specs.declared.message.Message.TheVariants as message
 use Rattle.filter_table.specs.declared.decision.Vote.{Vote}
-use Rattle.monitor_2pc.specs.Coordinators.{CoordinatorPlace, Phase, Idle, Voting, Acking}
+use Rattle.two_phase.specs.Coordinators.{CoordinatorPlace, Phase, Idle, Voting, Acking}
 use Rattle.world_events.specs.declared.event.Event.{Event}
 use Rattle.world_events.specs.declared.event.Event.TheVariants.{Start, Submit, StartFor, Take, Rx}
 use Rattle.world_events.specs.declared.event.Answer.{Answer}
@@ -18,9 +18,9 @@ use Rattle.world_model.specs.Agreement.{is_commitment, commitments, Expects, Awa
 use Rattle.world_model.specs.Readings.{Request, unsent, followed, request_after, request_of}
 use Rattle.world_model.proofs.Steps.{start_inv, start_for_inv, submit_inv, down_inv, up_inv}
 use Rattle.world_model.proofs.Submissions.{Inv2, in_channel, taken, never_down, never_up, event_stages, boot_stages}
-use Rattle.monitor_2pc.specs.Participants.{Fits}
+use Rattle.two_phase.specs.Participants.{Fits}
 use Rattle.std.proofs.lemmas.Option.{slice_get_within}
-use Rattle.table_replica.proofs.Shared.{get_at}
+use Rattle.filter_table.proofs.Positions.{get_at}
 
 -- An event keeps the invariant
 

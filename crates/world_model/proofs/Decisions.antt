@@ -9,9 +9,9 @@ use Rattle.monitor_messages.specs.declared.message.Message.TheVariants as messag
 use Rattle.filter_table.specs.declared.decision.Vote.{Vote}
 use Rattle.filter_table.specs.declared.decision.Vote.TheVariants as vote
 use Rattle.filter_table.specs.declared.decision.Veto.TheVariants as veto
-use Rattle.monitor_2pc.specs.declared.step.Step.{Step}
-use Rattle.monitor_2pc.specs.Participants.{ParticipantPlace, Casts}
-use Rattle.monitor_2pc.specs.Coordinators.{CoordinatorPlace, Requests, Voting, Acking, LeastNo, veto_by, asker_after, reply_to, Starts, refused, unstaged, alone, prepared, Tallies, waits, commits_all, aborts_all}
+use Rattle.two_phase.specs.declared.step.Step.{Step}
+use Rattle.two_phase.specs.Participants.{ParticipantPlace, Casts}
+use Rattle.two_phase.specs.Coordinators.{CoordinatorPlace, Requests, Voting, Acking, LeastNo, veto_by, asker_after, reply_to, Starts, refused, unstaged, alone, prepared, Tallies, waits, commits_all, aborts_all}
 use Rattle.world_events.specs.declared.event.Event.{Event}
 use Rattle.world_events.specs.declared.event.Event.TheVariants.{Start, Submit, StartFor, Take, Rx}
 use Rattle.world_events.specs.declared.event.Answer.{Answer}
@@ -31,7 +31,7 @@ use Rattle.world_model.proofs.Known.{Known, was, run_known}
 use Rattle.world_model.proofs.Followed.{waits_sent, next_entry, Numbered, run_numbered}
 use Rattle.world_model.proofs.Agreement.{run_inv, run_stages}
 use Rattle.std.proofs.lemmas.Option.{slice_get_within}
-use Rattle.table_replica.proofs.Shared.{get_at}
+use Rattle.filter_table.proofs.Positions.{get_at}
 
 -- what is known after a run
 record After (limits : TableLimits) (budget : ℕ) (budgets : List ℕ) (events : List Done) (w : World) : Type 0 where

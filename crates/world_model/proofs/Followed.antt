@@ -10,9 +10,9 @@ use Rattle.filter_table.specs.declared.decision.Vote.{Vote}
 use Rattle.filter_table.specs.declared.decision.Decision.{Decision}
 use Rattle.filter_table.specs.declared.decision.Decision.TheVariants.{Committed, Refused}
 use Rattle.filter_table.specs.declared.decision.Veto.TheVariants as veto
-use Rattle.monitor_2pc.specs.declared.step.Step.{Step}
-use Rattle.monitor_2pc.specs.Participants.{ParticipantPlace}
-use Rattle.monitor_2pc.specs.Coordinators.{CoordinatorPlace, Requests, Phase, Idle, Voting, Acking, phase_with, veto_of, veto_by, Starts, refused, unstaged, alone, prepared, Tallies, waits, commits_all, aborts_all}
+use Rattle.two_phase.specs.declared.step.Step.{Step}
+use Rattle.two_phase.specs.Participants.{ParticipantPlace}
+use Rattle.two_phase.specs.Coordinators.{CoordinatorPlace, Requests, Phase, Idle, Voting, Acking, phase_with, veto_of, veto_by, Starts, refused, unstaged, alone, prepared, Tallies, waits, commits_all, aborts_all}
 use Rattle.world_events.specs.declared.event.Event.{Event}
 use Rattle.world_events.specs.declared.event.Event.TheVariants.{Start, Submit, StartFor, Take, Rx}
 use Rattle.world_events.specs.declared.event.Answer.{Answer}
@@ -30,7 +30,7 @@ use Rattle.world_model.proofs.Moves.{Matches, matches_self, matches_set, matches
 use Rattle.world_model.proofs.Agreement.{run_stages}
 use Rattle.world_model.proofs.Known.{was, run_known}
 use Rattle.std.proofs.lemmas.Option.{slice_get_within}
-use Rattle.table_replica.proofs.Shared.{get_front, get_at}
+use Rattle.filter_table.proofs.Positions.{get_front, get_at}
 
 -- Lists of events
 

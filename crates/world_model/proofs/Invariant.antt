@@ -9,8 +9,8 @@ use Rattle.monitor_messages.specs.declared.message.Message.{Message}
 use Rattle.monitor_messages.specs.declared.message.Message.TheVariants as message
 use Rattle.filter_table.specs.declared.decision.Vote.{Vote}
 use Rattle.filter_table.specs.declared.decision.Vote.TheVariants as vote
-use Rattle.monitor_2pc.specs.Participants.{ParticipantPlace, Casts, staged_by}
-use Rattle.monitor_2pc.specs.Coordinators.{CoordinatorPlace, Phase, Idle, Voting, Acking}
+use Rattle.two_phase.specs.Participants.{ParticipantPlace, Casts, staged_by}
+use Rattle.two_phase.specs.Coordinators.{CoordinatorPlace, Phase, Idle, Voting, Acking}
 use Rattle.world_model.specs.Worlds.{Peer, World, new_peer, idle_at_first, boot, newest, send}
 use Rattle.world_model.specs.Agreement.{is_commitment, commitments}
 use Rattle.world_model.proofs.Lists.{get_map, get_more}

@@ -19,7 +19,7 @@ use Rattle.world_model.proofs.Runs.{run_keeps}
 use Rattle.world_model.proofs.Moves.{Matches, EventMoves, event_moves}
 use Rattle.world_model.proofs.Agreement.{run_inv, pair_version, of_core, idle_if_quiet}
 use Rattle.std.proofs.lemmas.Option.{slice_get_within}
-use Rattle.table_replica.proofs.Shared.{get_at}
+use Rattle.filter_table.proofs.Positions.{get_at}
 
 -- One event more
 

@@ -10,3 +10,5 @@ pub mod Followed
 pub mod Decisions
 pub mod RunLaws
 pub mod SoundLogs
+pub mod Standing
+pub mod Loads

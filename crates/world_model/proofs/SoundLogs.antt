@@ -10,7 +10,7 @@ use Rattle.world_events.specs.declared.event.Done.{Done}
 use Rattle.world_model.specs.Worlds.{World, Run}
 use Rattle.world_model.specs.Agreement.{IsSoundLog}
 use Rattle.world_model.proofs.RunLaws.{run_agrees}
-use Rattle.table_replica.proofs.Shared.{get_at}
+use Rattle.filter_table.proofs.Positions.{get_at}
 
 -- the table of a version and of the next
 after_next : (s : TableState) (log : List Op) (v : ℕ) (op : Op) → slice_get log v ≡ Some op → after_all s (take (suc v) log) ≡ after (after_all s (take v log)) op

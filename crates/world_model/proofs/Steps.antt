@@ -12,9 +12,9 @@ use Rattle.monitor_messages.specs.declared.message.Message.TheVariants as messag
 use Rattle.filter_table.specs.declared.decision.Vote.{Vote}
 use Rattle.filter_table.specs.declared.decision.Vote.TheVariants as vote
 use Rattle.filter_table.specs.declared.decision.Decision.{Decision}
-use Rattle.monitor_2pc.specs.declared.step.Step.{Step}
-use Rattle.monitor_2pc.specs.Participants.{ParticipantPlace, Casts, staged_by, Answers}
-use Rattle.monitor_2pc.specs.Coordinators.{CoordinatorPlace, Requests, CanStart, Phase, Idle, Voting, Acking, Starts, refused, unstaged, alone, prepared, Tallies, waits, commits_all, aborts_all, HearsAck, phase_with}
+use Rattle.two_phase.specs.declared.step.Step.{Step}
+use Rattle.two_phase.specs.Participants.{ParticipantPlace, Casts, staged_by, Answers}
+use Rattle.two_phase.specs.Coordinators.{CoordinatorPlace, Requests, CanStart, Phase, Idle, Voting, Acking, Starts, refused, unstaged, alone, prepared, Tallies, waits, commits_all, aborts_all, HearsAck, phase_with}
 use Rattle.world_events.specs.declared.event.Event.{Event}
 use Rattle.world_events.specs.declared.event.Event.TheVariants.{Take}
 use Rattle.world_events.specs.declared.event.Answer.{Answer}

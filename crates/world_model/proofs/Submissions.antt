@@ -11,8 +11,8 @@ use Rattle.monitor_messages.specs.declared.message.Message.{Message}
 use Rattle.monitor_messages.specs.declared.message.Message.TheVariants as message
 use Rattle.filter_table.specs.declared.decision.Vote.{Vote}
 use Rattle.filter_table.specs.declared.decision.Decision.{Decision}
-use Rattle.monitor_2pc.specs.declared.step.Step.{Step}
-use Rattle.monitor_2pc.specs.Coordinators.{CoordinatorPlace, Requests, no_requests, with_waiting, with_decided, requests_at, reply_at, reply_of, reply_to, asker_after, phase_with, CanStart, Phase, Idle, Voting, Acking, Starts, refused, unstaged, alone, prepared, Tallies, waits, commits_all, aborts_all}
+use Rattle.two_phase.specs.declared.step.Step.{Step}
+use Rattle.two_phase.specs.Coordinators.{CoordinatorPlace, Requests, no_requests, with_waiting, with_decided, requests_at, reply_at, reply_of, reply_to, asker_after, phase_with, CanStart, Phase, Idle, Voting, Acking, Starts, refused, unstaged, alone, prepared, Tallies, waits, commits_all, aborts_all}
 use Rattle.world_events.specs.declared.event.Event.{Event}
 use Rattle.world_events.specs.declared.event.Event.TheVariants.{Start, Submit, StartFor, Take, Rx}
 use Rattle.world_events.specs.declared.event.Answer.{Answer}

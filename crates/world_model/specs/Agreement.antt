@@ -8,8 +8,8 @@ use Rattle.filter_table.specs.Tables.{table, instructions, Allowed}
 use Rattle.monitor_messages.specs.declared.message.Message.{Message}
 use Rattle.monitor_messages.specs.declared.message.Message.TheVariants as message
 use Rattle.filter_table.specs.declared.decision.Vote.{Vote}
-use Rattle.monitor_2pc.specs.Participants.{Fits}
-use Rattle.monitor_2pc.specs.Coordinators.{CoordinatorPlace, Requests, CanSubmit, Idle, Voting, Acking}
+use Rattle.two_phase.specs.Participants.{Fits}
+use Rattle.two_phase.specs.Coordinators.{CoordinatorPlace, Requests, CanSubmit, Idle, Voting, Acking}
 use Rattle.world_events.specs.declared.event.Done.{Done}
 use Rattle.world_model.specs.Worlds.{Peer, World, newest, version_at}
 use Rattle.world_model.specs.Readings.{version_of}

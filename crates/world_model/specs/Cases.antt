@@ -9,12 +9,12 @@ use Rattle.pcap_reader.specs.declared.capture.CapturedPacket.{CapturedPacket}
 use Rattle.monitor_messages.specs.declared.message.Message.{Message}
 use Rattle.monitor_messages.specs.declared.message.Message.TheVariants as message
 use Rattle.filter_table.specs.declared.decision.Vote.{Vote}
-use Rattle.monitor_2pc.specs.declared.step.Say.{Say}
-use Rattle.monitor_2pc.specs.declared.step.Say.TheVariants as say
+use Rattle.two_phase.specs.declared.step.Say.{Say}
+use Rattle.two_phase.specs.declared.step.Say.TheVariants as say
 use Rattle.filter_table.specs.declared.decision.Decision.{Decision}
-use Rattle.monitor_2pc.specs.declared.step.Step.{Step}
-use Rattle.monitor_2pc.specs.Participants.{ParticipantPlace, Answers, commits}
-use Rattle.monitor_2pc.specs.Coordinators.{CoordinatorPlace, Requests, Starts, StartsFor, CanStart, CanSubmit, with_waiting, Hears, with_decided, HearsAck}
+use Rattle.two_phase.specs.declared.step.Step.{Step}
+use Rattle.two_phase.specs.Participants.{ParticipantPlace, Answers, commits}
+use Rattle.two_phase.specs.Coordinators.{CoordinatorPlace, Requests, Starts, StartsFor, CanStart, CanSubmit, with_waiting, Hears, with_decided, HearsAck}
 use Rattle.world_events.specs.declared.event.Event.{Event}
 use Rattle.world_events.specs.declared.event.Event.TheVariants.{Submit}
 use Rattle.world_events.specs.declared.event.Answer.{Answer}

@@ -17,7 +17,7 @@ use Rattle.filter_table.specs.declared.decision.Veto.{Veto}
 use Rattle.filter_table.specs.declared.decision.Veto.TheVariants as veto
 use Rattle.filter_table.specs.declared.decision.Decision.{Decision}
 use Rattle.filter_table.specs.declared.decision.Decision.TheVariants.{Committed, Refused}
-use Rattle.monitor_2pc.specs.Coordinators.{Requests, Voting, veto_of}
+use Rattle.two_phase.specs.Coordinators.{Requests, Voting, veto_of}
 use Rattle.world_events.specs.declared.event.Event.{Event}
 use Rattle.world_events.specs.declared.event.Event.TheVariants.{Start, StartFor, Take, Rx}
 use Rattle.world_events.specs.declared.event.Answer.{Answer}

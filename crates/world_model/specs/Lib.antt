@@ -4,3 +4,5 @@ pub mod Readings
 pub mod Agreement
 pub mod Decisions
 pub mod Committed
+pub mod Refusals
+pub mod Settling

@@ -12,7 +12,7 @@ use Rattle.filter_table.specs.declared.delivery.Kept.{Kept}
 use Rattle.filter_table.specs.Soundness.{IsSoundTable}
 use Rattle.filter_table.specs.Tables.{TableState, Accepting}
 use Rattle.filter_table.proofs.Lists.{never, in_head, in_tail}
-use Rattle.installed_filters.specs.Keeping.{raised}
+use Rattle.filter_table.specs.Raising.{raised}
 use Rattle.world_progress.proofs.Growing.{ReceiversSoFar, IsVerdict, receivers_past, receivers_raised}
 
 module _ (caps : List Cap) (packet : Packet) where

@@ -2,14 +2,14 @@
 use Rattle.std.proofs.Common.{◌≡◌, ◌+◌, ◌<◌, ℕ, suc, true, Bool, Option, Some, List, [], ◌∷◌, ◌++◌, length, map, slice_get, slice_index_or, refl, ap, sym, ◌∙◌, subst, arith}
 use Rattle.std.specs.Prelude.{drop}
 use Rattle.std.proofs.lemmas.Option.{slice_get_within}
-use Rattle.table_replica.proofs.Shared.{get_at}
+use Rattle.filter_table.proofs.Positions.{get_at}
 use Rattle.filter_table.specs.Limits.{TableLimits}
 use Rattle.filter_table.specs.declared.operation.Op.{Op}
 use Rattle.filter_table.specs.Tables.{TableState, table}
 use Rattle.monitor_messages.specs.declared.message.Message.{Message}
 use Rattle.monitor_messages.specs.declared.message.Message.TheVariants as message
-use Rattle.monitor_2pc.specs.Participants.{ParticipantPlace, Fits}
-use Rattle.monitor_2pc.specs.Coordinators.{CoordinatorPlace, Requests}
+use Rattle.two_phase.specs.Participants.{ParticipantPlace, Fits}
+use Rattle.two_phase.specs.Coordinators.{CoordinatorPlace, Requests}
 use Rattle.world_model.specs.Worlds.{Peer, World, newest}
 use Rattle.world_model.specs.Agreement.{commitments, Expects, Awaits, NoStranger}
 use Rattle.world_model.proofs.Invariant.{Pair, at_rest, asked, voted, counted, to_commit, to_abort, acked, finished, Inv}

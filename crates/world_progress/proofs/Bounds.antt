@@ -6,7 +6,7 @@ use Rattle.filter_table.specs.declared.operation.Op.{Op}
 use Rattle.world_events.specs.declared.event.Done.{Done}
 use Rattle.world_model.specs.Worlds.{World, new_peer, boot, Happens, Runs, Run}
 use Rattle.world_model.proofs.Runs.{runs_more}
-use Rattle.world_core.specs.Settling.{loads}
+use Rattle.world_model.specs.Settling.{loads}
 use Rattle.world_progress.specs.Remaining.{is_step, is_request, per_request, steps, requests, unbegun_up, waiting_weight, steps_left}
 use Rattle.world_progress.proofs.Leaving.{step_of_run}
 

@@ -14,9 +14,9 @@ use Rattle.world_events.specs.Memory.{LacksMemory, HadMemory}
 use Rattle.world_model.specs.Worlds.{Peer, World, boot, Happens, Run}
 use Rattle.world_model.proofs.Runs.{runs_more}
 use Rattle.world_model.proofs.Agreement.{run_inv}
-use Rattle.world_core.specs.Refusals.{channel, StandsFirst, AllQuiet, IsNext, Settles}
-use Rattle.world_core.specs.Settling.{takes_left}
-use Rattle.world_core.proofs.Loads.{next_leaves}
+use Rattle.world_model.specs.Refusals.{channel, StandsFirst, AllQuiet, IsNext, Settles}
+use Rattle.world_model.specs.Settling.{takes_left}
+use Rattle.world_model.proofs.Loads.{next_leaves}
 use Rattle.world_progress.specs.Progress.{DoneOrRefused, SettlesAmply}
 use Rattle.world_progress.proofs.SameRuns.{happens_once}
 use Rattle.world_progress.proofs.Once.{next_once, quiet_no_next}

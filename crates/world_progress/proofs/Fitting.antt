@@ -10,8 +10,8 @@ use Rattle.filter_table.specs.declared.decision.Vote.{Vote}
 use Rattle.filter_table.specs.declared.decision.Decision.{Decision}
 use Rattle.monitor_messages.specs.declared.message.Message.{Message}
 use Rattle.monitor_messages.specs.declared.message.Message.TheVariants as message
-use Rattle.monitor_2pc.specs.declared.step.Step.{Step}
-use Rattle.monitor_2pc.specs.Coordinators.{Phase, Requests, CoordinatorPlace, Idle, Voting, Acking, Starts, refused, unstaged, alone, prepared, StartsFor, reply_to, Tallies, waits, commits_all, aborts_all, reply_of, reply_at, phase_with}
+use Rattle.two_phase.specs.declared.step.Step.{Step}
+use Rattle.two_phase.specs.Coordinators.{Phase, Requests, CoordinatorPlace, Idle, Voting, Acking, Starts, refused, unstaged, alone, prepared, StartsFor, reply_to, Tallies, waits, commits_all, aborts_all, reply_of, reply_at, phase_with}
 use Rattle.world_events.specs.declared.event.Event.{Event}
 use Rattle.world_events.specs.declared.event.Event.TheVariants.{Start, Submit, StartFor, Take, Rx}
 use Rattle.world_events.specs.declared.event.Answer.{Answer}

@@ -9,8 +9,8 @@ use Rattle.filter_table.specs.Listed.{ListedFilter}
 use Rattle.filter_table.specs.declared.delivery.Kept.{Kept}
 use Rattle.filter_table.specs.Tables.{Hands, Gets, AreReceivers}
 use Rattle.filter_table.proofs.Lists.{three}
-use Rattle.installed_filters.specs.Keeping.{at_endpoint, raised}
-use Rattle.installed_filters.proofs.Raised.{Raise, more, new, raise_cases, raised_increases, raised_others}
+use Rattle.filter_table.specs.Raising.{at_endpoint, raised}
+use Rattle.filter_table.proofs.Raised.{Raise, more, new, raise_cases, raised_increases, raised_others}
 
 -- the list is right for the filters so far, and leaves none out that hands on the packet
 pub record ReceiversSoFar (caps : List Cap) (filters : List ListedFilter) (packet : Packet) (kept : List Kept) : Type 0 where

@@ -9,16 +9,16 @@ use Rattle.filter_table.specs.declared.decision.Veto.TheVariants as veto
 use Rattle.filter_table.specs.declared.decision.Decision.TheVariants.{Committed, Refused}
 use Rattle.monitor_messages.specs.declared.message.Message.{Message}
 use Rattle.monitor_messages.specs.declared.message.Message.TheVariants as message
-use Rattle.monitor_2pc.specs.declared.step.Step.{Step}
-use Rattle.monitor_2pc.specs.Coordinators.{CoordinatorPlace, Requests, Phase, Idle, Voting, Acking, Starts, refused, unstaged, alone, prepared, asker_after, reply_to, veto_of, StartsFor, requests_at, phase_with}
+use Rattle.two_phase.specs.declared.step.Step.{Step}
+use Rattle.two_phase.specs.Coordinators.{CoordinatorPlace, Requests, Phase, Idle, Voting, Acking, Starts, refused, unstaged, alone, prepared, asker_after, reply_to, veto_of, StartsFor, requests_at, phase_with}
 use Rattle.world_events.specs.declared.event.Event.{Event}
 use Rattle.world_events.specs.declared.event.Event.TheVariants.{Start, Submit, StartFor, Take, Rx}
 use Rattle.world_events.specs.declared.event.Answer.{Answer}
 use Rattle.world_model.specs.Cases.{outgoing, sent_up, raised, TakesUpAt}
 use Rattle.world_model.specs.Worlds.{Peer, World, newest, sent_out, gave, core0_moves, HappensStart, HappensStartFor, HappensSubmit, HappensUp, HappensDown, Happens}
 use Rattle.world_model.proofs.Invariant.{Inv}
-use Rattle.world_core.specs.Settling.{load, loads, outcomes_due, reply_due, takes_left}
-use Rattle.world_core.proofs.Loads.{down_leaves, up_leaves}
+use Rattle.world_model.specs.Settling.{load, loads, outcomes_due, reply_due, takes_left}
+use Rattle.world_model.proofs.Loads.{down_leaves, up_leaves}
 use Rattle.world_events.specs.declared.event.Done.{Done}
 use Rattle.world_model.specs.Worlds.{boot, Run}
 use Rattle.world_model.proofs.Agreement.{run_inv}

@@ -2,14 +2,14 @@
 use Rattle.std.proofs.Common.{◌≡◌, ◌≢◌, ◌+◌, ◌<◌, ℕ, suc, false, Option, Some, List, [], ◌∷◌, ◌++◌, length, map, slice_get, slice_index_or, refl, ap, sym, ◌∙◌, subst, arith, length-append}
 use Rattle.std.specs.Prelude.{drop, option_map}
 use Rattle.std.proofs.lemmas.Option.{slice_get_within}
-use Rattle.table_replica.proofs.Shared.{get_at}
+use Rattle.filter_table.proofs.Positions.{get_at}
 use mathlib.Core.List.{IsPrefix}
 use Rattle.filter_table.specs.Limits.{TableLimits}
 use Rattle.filter_table.specs.declared.operation.Op.{Op}
 use Rattle.filter_table.specs.Tables.{TableState, table}
 use Rattle.monitor_messages.specs.declared.message.Message.{Message}
-use Rattle.monitor_2pc.specs.declared.step.Step.{Step}
-use Rattle.monitor_2pc.specs.Coordinators.{CoordinatorPlace, Requests, Idle}
+use Rattle.two_phase.specs.declared.step.Step.{Step}
+use Rattle.two_phase.specs.Coordinators.{CoordinatorPlace, Requests, Idle}
 use Rattle.world_events.specs.declared.event.Answer.{Answer}
 use Rattle.world_model.specs.Cases.{outgoing, TakesUpAt}
 use Rattle.world_model.specs.Worlds.{Peer, World, newest, gave, core0_moves, HappensUp}
@@ -23,7 +23,7 @@ use Rattle.world_histories.specs.Merging.{as_listed, EndsAs}
 use Rattle.world_histories.proofs.Seats.{messages}
 use Rattle.world_histories.proofs.Rests.{takes_in, rest_down, rest_up, takes_are, drop_front, there_or}
 use Rattle.world_histories.proofs.Merge.{RunLeft, run_left}
-use Rattle.world_core.specs.Refusals.{AllQuiet}
+use Rattle.world_model.specs.Refusals.{AllQuiet}
 use Rattle.world_progress.specs.Remaining.{SendsToEmpty, NoneWaits, IsAtRest, AreAtRest}
 use Rattle.world_progress.proofs.Rest.{quiet_rests}
 use Rattle.world_progress.proofs.Fitting.{run_sends}

@@ -10,10 +10,10 @@ use Rattle.world_events.specs.declared.event.Done.{Done}
 use Rattle.world_events.specs.declared.fault.WorldFault.{WorldFault}
 use Rattle.world_model.specs.Worlds.{Peer, World, Happens, Run}
 use Rattle.world_model.proofs.RunLaws.{run_agrees}
-use Rattle.world_core.specs.Refusals.{channel, StandsFirst}
-use Rattle.world_core.proofs.Standing.{start_none, submit_none, start_for_none, take_none, rx_none}
+use Rattle.world_model.specs.Refusals.{channel, StandsFirst}
+use Rattle.world_model.proofs.Standing.{start_none, submit_none, start_for_none, take_none, rx_none}
 use Rattle.filter_table.specs.Limits.{TableLimits}
-use Rattle.table_replica.proofs.Shared.{get_at}
+use Rattle.filter_table.proofs.Positions.{get_at}
 
 -- each other core has an entry among the requests and among the cores
 peers_wait : (limits : TableLimits) (budget : ℕ) (budgets : List ℕ) (before : List Done) (w : World) → Run limits budget budgets before w → length w.requests.waiting ≡ length w.peers

@@ -14,7 +14,7 @@ use Rattle.world_events.specs.declared.fault.WorldFault.{WorldFault}
 use Rattle.world_events.specs.declared.fault.WorldFault.TheVariants.{NoSuchCore, Nothing, NotReady, NotIdle, Spent, Outstanding, NoneWaiting}
 use Rattle.world_events.specs.Memory.{lacked_memory, IsRefusedForMemory, LacksMemory}
 use Rattle.world_model.specs.Worlds.{Peer, World}
-use Rattle.world_core.specs.Refusals.{StandsFirst, AllQuiet, IsNext}
+use Rattle.world_model.specs.Refusals.{StandsFirst, AllQuiet, IsNext}
 
 -- Whether a core was out of memory
 

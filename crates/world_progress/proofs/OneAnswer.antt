@@ -15,9 +15,9 @@ use Rattle.filter_table.specs.declared.decision.Vote.{Vote}
 use Rattle.filter_table.specs.declared.decision.Vote.TheVariants as vote
 use Rattle.filter_table.specs.declared.decision.Decision.{Decision}
 use Rattle.filter_table.specs.declared.decision.Decision.TheVariants.{Committed, Refused}
-use Rattle.monitor_2pc.specs.declared.step.Step.{Step}
-use Rattle.monitor_2pc.specs.Participants.{ParticipantPlace, Answers, Casts}
-use Rattle.monitor_2pc.specs.Coordinators.{CoordinatorPlace, Requests, veto_of, Starts, refused, unstaged, alone, prepared, LeastNo, Tallies, waits, commits_all, aborts_all}
+use Rattle.two_phase.specs.declared.step.Step.{Step}
+use Rattle.two_phase.specs.Participants.{ParticipantPlace, Answers, Casts}
+use Rattle.two_phase.specs.Coordinators.{CoordinatorPlace, Requests, veto_of, Starts, refused, unstaged, alone, prepared, LeastNo, Tallies, waits, commits_all, aborts_all}
 use Rattle.world_events.specs.declared.event.Event.{Event}
 use Rattle.world_events.specs.declared.event.Event.TheVariants.{Start, Submit, StartFor, Take, Rx}
 use Rattle.world_events.specs.declared.event.Answer.{Answer}

@@ -6,7 +6,7 @@ use Rattle.filter_table.specs.Listed.{ListedFilter}
 use Rattle.filter_table.specs.declared.delivery.Kept.{Kept}
 use Rattle.filter_table.specs.Tables.{IsIncreasing, AreReceivers}
 use Rattle.filter_table.proofs.Lists.{never, in_head, in_tail, first_or_later}
-use Rattle.installed_filters.proofs.Raised.{tail_increases}
+use Rattle.filter_table.proofs.Raised.{tail_increases}
 
 -- in increasing order the first is below each that comes later
 later_above : (k : Kept) (ks : List Kept) (x : Kept) → IsIncreasing (k ∷ ks) → Contains ks x → k.endpoint < x.endpoint

@@ -4,13 +4,13 @@ use Rattle.std.specs.Prelude.{option_and_then, option_map}
 use Rattle.std.specs.List.{All}
 use Rattle.std.proofs.lemmas.List.Elements.{All-head}
 use Rattle.std.proofs.lemmas.Option.{slice_get_within}
-use Rattle.table_replica.proofs.Shared.{get_at}
+use Rattle.filter_table.proofs.Positions.{get_at}
 use Rattle.filter_table.specs.Limits.{TableLimits}
 use Rattle.filter_table.specs.declared.operation.Op.{Op}
 use Rattle.filter_table.specs.declared.decision.Decision.{Decision}
 use Rattle.monitor_messages.specs.declared.message.Message.{Message}
 use Rattle.monitor_messages.specs.declared.message.Message.TheVariants as message
-use Rattle.monitor_2pc.specs.Coordinators.{Phase, Requests, CoordinatorPlace, Idle}
+use Rattle.two_phase.specs.Coordinators.{Phase, Requests, CoordinatorPlace, Idle}
 use Rattle.world_events.specs.declared.event.Event.{Event}
 use Rattle.world_events.specs.declared.event.Event.TheVariants.{StartFor, Take}
 use Rattle.world_events.specs.declared.event.Done.{Done}
@@ -24,7 +24,7 @@ use Rattle.world_model.proofs.Agreement.{run_inv, run_stages, idle_if_quiet, of_
 use Rattle.world_model.proofs.Submissions.{requests_in, Holds, Stage, free, submitted, waiting, served, replied, Served}
 use Rattle.world_model.proofs.RunLaws.{run_agrees}
 use Rattle.world_model.proofs.Known.{run_known}
-use Rattle.world_core.specs.Refusals.{channel, waiting_at, StandsFirst, AllQuiet, IsNext, Settles}
+use Rattle.world_model.specs.Refusals.{channel, waiting_at, StandsFirst, AllQuiet, IsNext, Settles}
 use Rattle.world_progress.specs.Progress.{DoneOrRefused, IsDoneAmply, SettlesAmply}
 use Rattle.world_progress.proofs.Ends.{run_settles}
 use Rattle.world_progress.proofs.Told.{event_told}

@@ -5,9 +5,9 @@ use Rattle.filter_table.specs.declared.decision.Vote.{Vote}
 use Rattle.filter_table.specs.declared.decision.Vote.TheVariants as vote
 use Rattle.filter_table.specs.declared.decision.Decision.TheVariants.{Committed, Refused}
 use Rattle.filter_table.specs.Tables.{TableState, made}
-use Rattle.monitor_2pc.specs.declared.step.Say.TheVariants as say
-use Rattle.monitor_2pc.specs.declared.step.Step.{Step}
-use Rattle.monitor_2pc.specs.Coordinators.{CoordinatorPlace, Voting, Acking, LeastNo, Tallies, waits, commits_all, aborts_all, step, veto_by}
+use Rattle.two_phase.specs.declared.step.Say.TheVariants as say
+use Rattle.two_phase.specs.declared.step.Step.{Step}
+use Rattle.two_phase.specs.Coordinators.{CoordinatorPlace, Voting, Acking, LeastNo, Tallies, waits, commits_all, aborts_all, step, veto_by}
 
 -- a vote is missing, or none is
 open_or_all : (votes : List (Option Vote)) → ((i : ℕ) × (slice_get votes i ≡ Some None)) ⊎ ((i : ℕ) → slice_get votes i ≢ Some None)

@@ -15,10 +15,10 @@ use Rattle.filter_table.specs.Tables.{TableState, table, made, instructions, All
 use Rattle.filter_table.proofs.Tables.{allowed_fits, over_budget}
 use Rattle.monitor_messages.specs.declared.message.Message.{Message}
 use Rattle.monitor_messages.specs.declared.message.Message.TheVariants as message
-use Rattle.monitor_2pc.specs.declared.step.Say.TheVariants as say
-use Rattle.monitor_2pc.specs.declared.step.Step.{Step}
-use Rattle.monitor_2pc.specs.Participants.{ParticipantPlace, Casts, staged_by}
-use Rattle.monitor_2pc.specs.Coordinators.{CoordinatorPlace, Requests, Phase, Idle, Voting, Acking, CanStart, Starts, refused, alone, prepared, step, asker_after, reply_to, with_waiting, with_decided, phase_with, reply_at, requests_at}
+use Rattle.two_phase.specs.declared.step.Say.TheVariants as say
+use Rattle.two_phase.specs.declared.step.Step.{Step}
+use Rattle.two_phase.specs.Participants.{ParticipantPlace, Casts, staged_by}
+use Rattle.two_phase.specs.Coordinators.{CoordinatorPlace, Requests, Phase, Idle, Voting, Acking, CanStart, Starts, refused, alone, prepared, step, asker_after, reply_to, with_waiting, with_decided, phase_with, reply_at, requests_at}
 use Rattle.world_events.specs.declared.event.Event.{Event}
 use Rattle.world_events.specs.declared.event.Event.TheVariants.{Start, Submit, StartFor, Take, Rx}
 use Rattle.world_events.specs.declared.event.Answer.{Answer}
@@ -33,7 +33,7 @@ use Rattle.world_model.proofs.Invariant.{Pair, at_rest, asked, voted, counted, t
 use Rattle.world_model.proofs.Agreement.{run_inv}
 use Rattle.world_model.proofs.RunLaws.{run_agrees, run_no_stranger, version_within}
 use Rattle.world_model.proofs.SoundLogs.{run_sound}
-use Rattle.world_core.specs.Refusals.{channel}
+use Rattle.world_model.specs.Refusals.{channel}
 use Rattle.world_progress.specs.Progress.{IsDoneAmply, DoneOrRefused}
 use Rattle.world_progress.proofs.Outcomes.{Outcome, allows, breaks, exceeds, outcome}
 use Rattle.world_progress.proofs.Accepted.{some_accepting}

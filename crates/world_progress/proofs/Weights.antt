@@ -10,7 +10,7 @@ use Rattle.world_events.specs.declared.event.Answer.{Answer}
 use Rattle.world_events.specs.declared.event.Answer.TheVariants.{TookPrepare, TookCommit, TookAbort}
 use Rattle.world_model.specs.Cases.{Outgoing, nothing, to_all, to_one, sent_up}
 use Rattle.world_model.specs.Worlds.{Peer, send, sent_out, sent_to_one}
-use Rattle.world_core.specs.Settling.{weight, load, loads, votes_cast}
+use Rattle.world_model.specs.Settling.{weight, load, loads, votes_cast}
 use Rattle.world_progress.specs.Remaining.{unbegun_in, unbegun_up, weigh, waiting_weight}
 
 -- Requests under way to core 0

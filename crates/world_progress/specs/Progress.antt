@@ -8,7 +8,7 @@ use Rattle.world_events.specs.declared.event.Done.{Done}
 use Rattle.world_events.specs.declared.fault.WorldFault.{WorldFault}
 use Rattle.world_events.specs.Memory.{LacksMemory, HadMemory}
 use Rattle.world_model.specs.Worlds.{World, Happens}
-use Rattle.world_core.specs.Refusals.{StandsFirst, AllQuiet, Settles}
+use Rattle.world_model.specs.Refusals.{StandsFirst, AllQuiet, Settles}
 
 -- the event is done, and no core is out of memory for it
 pub record IsDoneAmply (w : World) (event : Event) : Type 0 where

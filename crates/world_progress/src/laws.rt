@@ -8,7 +8,7 @@ ghost use Rattle.world_events.specs.declared.event.Event.{Event};
 ghost use Rattle.world_events.specs.declared.fault.WorldFault.{WorldFault};
 ghost use Rattle.world_events.specs.Memory.{LacksMemory, HadMemory};
 ghost use Rattle.world_model.specs.Worlds.{World, Happens, Runs, Run};
-ghost use Rattle.world_core.specs.Refusals.{StandsFirst, AllQuiet, Settles};
+ghost use Rattle.world_model.specs.Refusals.{StandsFirst, AllQuiet, Settles};
 ghost use Rattle.world_progress.specs.Progress.{DoneOrRefused, SettlesAmply};
 
 /// In every run each event can be done with no core out of memory, or a fault stands, and not both. The fault is the only one.

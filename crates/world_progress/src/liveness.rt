@@ -3,14 +3,14 @@
 ghost use Rattle.std.specs.Prelude.{◌≡◌, ◌≤◌, ◌+◌, ◌*◌, ◌⊎◌, ◌∷◌, ℕ, List, Some, length, slice_get};
 ghost use Rattle.filter_table.specs.Limits.{TableLimits};
 ghost use Rattle.filter_table.specs.declared.operation.Op.{Op};
-ghost use Rattle.monitor_2pc.specs.Coordinators.{Idle};
+ghost use Rattle.two_phase.specs.Coordinators.{Idle};
 ghost use Rattle.world_events.specs.declared.event.Answer.{Answer};
 ghost use Rattle.world_model.specs.Cases.{outgoing};
 ghost use Rattle.world_events.specs.declared.event.Done.{Done};
 ghost use Rattle.world_model.specs.Worlds.{Peer, World, HappensUp, Happens, Runs, Run};
 ghost use Rattle.world_histories.specs.declared.history.Stamped.{Stamped};
 ghost use Rattle.world_histories.specs.Histories.{Core0State, OtherState, Computation};
-ghost use Rattle.world_core.specs.Refusals.{AllQuiet};
+ghost use Rattle.world_model.specs.Refusals.{AllQuiet};
 ghost use Rattle.world_progress.specs.Remaining.{steps_left, is_step, is_request, steps, requests, per_request, total, NoneWaits, IsAtRest, HasNothingLeft, CanGoOn, HasNoNumber, SendsToEmpty, HasReplyAtMost, NextIsAwaited, SendsToReady, HasTakenAll, AreAtRest, LastWordsComeLast};
 
 /// Each step of a run leaves at least one step less, but for what a request brings.

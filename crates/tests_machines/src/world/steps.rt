@@ -1,6 +1,6 @@
 //! Steps of a machine in plain values. An event that is refused memory is done once more.
 
-ghost use Rattle.world_core.specs.Refusals.{IsShortEvent};
+ghost use Rattle.world_model.specs.Refusals.{IsShortEvent};
 
 use super::sights::{after, listed, places_of, sights};
 use crate::facts::{equal, equal_at};

@@ -2,7 +2,7 @@ use Rattle.std.proofs.Common.{◌≡◌, ◌+◌, ◌++◌, ◌≤◌, length, m
 use Rattle.std.specs.Prelude.{vec_len, vec_capacity}
 use Rattle.std.specs.Vec.Iter.{into_iter_items}
 use Rattle.world_events.specs.declared.event.Done.{Done}
-use Rattle.world_core.specs.Refusals.{Extends}
+use Rattle.world_model.specs.Refusals.{Extends}
 use Rattle.headline.proofs.machine.apply_all.Given as goal
 
 abbrev pub invariant-loop-event : goal.invariant-loop-event

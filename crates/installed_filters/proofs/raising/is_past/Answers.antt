@@ -3,7 +3,7 @@ use Rattle.std.proofs.lemmas.Bool.Decides.{nat_tests}
 use Rattle.std.proofs.lemmas.List.{get_or_default}
 use Rattle.std.proofs.lemmas.Option.{slice_get_within, get_or_from_slice_get}
 use Rattle.filter_table.specs.declared.delivery.Kept.{Kept}
-use Rattle.installed_filters.proofs.Raised.{earlier_all}
+use Rattle.filter_table.proofs.Raised.{earlier_all}
 use Rattle.installed_filters.proofs.raising.is_past.Goals as goal
 
 abbrev nothing : Kept

@@ -3,8 +3,8 @@ use Rattle.std.proofs.Math.Seq.{take-set-lt}
 use Rattle.std.proofs.lemmas.List.{get_or-take, length-take-le, take_more_set}
 use Rattle.filter_table.specs.declared.delivery.Kept.{Kept}
 use Rattle.filter_table.proofs.Lists.{get_some}
-use Rattle.installed_filters.specs.Keeping.{at_endpoint}
-use Rattle.installed_filters.proofs.Raised.{raised_last, raised_next, earlier_all}
+use Rattle.filter_table.specs.Raising.{at_endpoint}
+use Rattle.filter_table.proofs.Raised.{raised_last, raised_next, earlier_all}
 use Rattle.installed_filters.proofs.raising.raise.Goals as goal
 use Rattle.installed_filters.proofs.raising.raise.Goals.{then-count-gt0+else-kept-count, else-count-gt0}
 

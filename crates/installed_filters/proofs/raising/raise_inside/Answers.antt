@@ -2,8 +2,8 @@ use Rattle.std.proofs.Common.{◌≡◌, ◌∙◌, ◌<◌, ◌≤◌, arith, a
 use Rattle.std.proofs.lemmas.Bool.{cases_lt}
 use Rattle.std.proofs.lemmas.Option.{slice_get_within, get_or_from_slice_get}
 use Rattle.filter_table.specs.declared.delivery.Kept.{Kept}
-use Rattle.installed_filters.specs.Keeping.{at_endpoint}
-use Rattle.installed_filters.proofs.Raised.{raised_found, raised_inserted}
+use Rattle.filter_table.specs.Raising.{at_endpoint}
+use Rattle.filter_table.proofs.Raised.{raised_found, raised_inserted}
 use Rattle.installed_filters.proofs.raising.raise_inside.Goals as goal
 
 pub returns-in-Some : goal.returns-in-Some

@@ -1,7 +1,7 @@
 use Rattle.std.proofs.Common.{◌≡◌, ◌∙◌, ◌<◌, List, ℕ, Some, slice_get, get_or, subst}
 use Rattle.filter_table.specs.declared.delivery.Kept.{Kept}
 use Rattle.filter_table.proofs.Lists.{get_some}
-use Rattle.installed_filters.proofs.Raised.{raised_next}
+use Rattle.filter_table.proofs.Raised.{raised_next}
 use Rattle.installed_filters.proofs.raising.raise_within.Goals as goal
 
 pub returns-then-is_past : goal.returns-then-is_past

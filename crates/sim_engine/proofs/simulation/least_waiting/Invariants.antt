@@ -1,5 +1,5 @@
 use Rattle.std.proofs.Common.{◌≡◌, ◌<◌, ℕ, None}
-use Rattle.world_core.specs.Refusals.{waiting_at}
+use Rattle.world_model.specs.Refusals.{waiting_at}
 use Rattle.sim_engine.proofs.simulation.least_waiting.Given as goal
 
 abbrev pub invariant-loop-core : goal.invariant-loop-core

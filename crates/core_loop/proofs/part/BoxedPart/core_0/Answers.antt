@@ -1,6 +1,6 @@
 use Rattle.std.proofs.Common.{[], refl, ap, sym, subst}
 use Rattle.table_replica.specs.Shown.{ReplicaState}
-use Rattle.monitor_2pc.specs.Coordinators.{CoordinatorState}
+use Rattle.two_phase.specs.Coordinators.{CoordinatorState}
 use Rattle.core_loop.specs.declared.part.Part.{Part}
 use Rattle.core_loop.specs.Keeping.{IsStanding}
 use Rattle.core_loop.proofs.Standings.{first_stands}

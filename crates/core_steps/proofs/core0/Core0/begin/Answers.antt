@@ -1,5 +1,5 @@
 use Rattle.std.proofs.Common.{None, refl}
-use Rattle.monitor_2pc.specs.Coordinators.{coordinator_place}
+use Rattle.two_phase.specs.Coordinators.{coordinator_place}
 use Rattle.core_steps.proofs.Sending.{start_sent}
 use Rattle.core_steps.proofs.core0.Core0.begin.Goals as goal
 

@@ -1,5 +1,5 @@
 use Rattle.std.proofs.Common.{◌∙◌, Some, ap}
-use Rattle.monitor_2pc.specs.declared.step.Say.{Say}
+use Rattle.two_phase.specs.declared.step.Say.{Say}
 use Rattle.core_steps.proofs.Sending.{vote_sent, said_by}
 use Rattle.core_steps.proofs.core0.Core0.vote_sends.Goals as goal
 

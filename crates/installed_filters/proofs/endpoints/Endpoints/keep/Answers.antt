@@ -3,7 +3,7 @@ use Rattle.chunked.specs.Maps.{SortedMap}
 use Rattle.filter_table.specs.Tables.{IsIncreasing}
 use Rattle.installed_filters.specs.Counts.{counts_in}
 use Rattle.installed_filters.specs.Keeping.{AreKept, GetsOr}
-use Rattle.installed_filters.proofs.Raised.{raised_increases}
+use Rattle.filter_table.proofs.Raised.{raised_increases}
 use Rattle.installed_filters.proofs.Walks.{keep_none, keep_one}
 use Rattle.installed_filters.proofs.endpoints.Endpoints.keep.Goals as goal
 

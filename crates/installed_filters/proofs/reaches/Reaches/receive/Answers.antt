@@ -4,7 +4,8 @@ use Rattle.chunked.specs.Maps.{SortedMap}
 use Rattle.filter_group.specs.declared.lockstep.Hit.{Hit}
 use Rattle.filter_table.proofs.Lists.{get_some}
 use Rattle.installed_filters.specs.Counts.{no_counts, ends_at, Reaching}
-use Rattle.installed_filters.specs.Keeping.{AreKept, GetsBy, at_endpoint}
+use Rattle.installed_filters.specs.Keeping.{AreKept, GetsBy}
+use Rattle.filter_table.specs.Raising.{at_endpoint}
 use Rattle.installed_filters.proofs.Hits.{kept_of_one}
 use Rattle.installed_filters.proofs.reaches.Reaches.receive.Goals as goal
 

@@ -1,5 +1,5 @@
 use Rattle.std.proofs.Common.{rules, ◌≡◌, ◌+◌, ℕ, None, Some, length, replicate, refl, sym, ap, ◌∙◌}
-use Rattle.monitor_2pc.specs.Coordinators.{Phase, Idle, CoordinatorState, coordinator_place, prepared, veto_of}
+use Rattle.two_phase.specs.Coordinators.{Phase, Idle, CoordinatorState, coordinator_place, prepared, veto_of}
 use Rattle.monitor_2pc.specs.Starting.{WasStaged}
 use Rattle.monitor_2pc.specs.Waiting.{phase_of}
 use Rattle.monitor_2pc.proofs.Starts.{starts_refused, starts_alone, placed}

@@ -1,5 +1,5 @@
 use Rattle.std.proofs.Common.{◌≡◌, ◌-◌, None, Some, slice_get, ap, arith}
-use Rattle.monitor_2pc.specs.Coordinators.{CoordinatorState}
+use Rattle.two_phase.specs.Coordinators.{CoordinatorState}
 use Rattle.monitor_2pc.specs.Waiting.{phase_of}
 use Rattle.monitor_2pc.proofs.Starts.{starts_for_decided, starts_for_asked, asked_keeps}
 use Rattle.monitor_2pc.proofs.coordinator.Coordinator.begin_for.Goals as goal

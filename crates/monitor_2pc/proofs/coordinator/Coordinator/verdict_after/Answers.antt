@@ -1,5 +1,5 @@
 use Rattle.std.proofs.Common.{◌≡◌, ◌-◌, ◌∙◌, Some, slice_set, ap, arith}
-use Rattle.monitor_2pc.specs.Coordinators.{CoordinatorState}
+use Rattle.two_phase.specs.Coordinators.{CoordinatorState}
 use Rattle.monitor_2pc.specs.Tallying.{SaysOn}
 use Rattle.monitor_2pc.proofs.Verdicts.{says_told, votes_are}
 use Rattle.monitor_2pc.proofs.coordinator.Coordinator.verdict_after.Goals as goal

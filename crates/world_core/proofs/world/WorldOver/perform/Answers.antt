@@ -1,4 +1,4 @@
-use Rattle.world_core.proofs.Standing.{start_none, submit_none, start_for_none, take_none, rx_none, done_stands, joined_stands}
+use Rattle.world_model.proofs.Standing.{start_none, submit_none, start_for_none, take_none, rx_none, done_stands, joined_stands}
 use Rattle.world_core.proofs.world.WorldOver.perform.Goals as goal
 
 pub returns-in-Rx-clause-happens : goal.returns-in-Rx-clause-happens

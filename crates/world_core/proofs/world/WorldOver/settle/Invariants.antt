@@ -1,7 +1,7 @@
 use Rattle.std.proofs.Common.{◌≡◌, ◌++◌, List}
 use Rattle.world_events.specs.declared.event.Done.{Done}
-use Rattle.world_core.specs.Refusals.{Settles}
-use Rattle.world_core.specs.Settling.{takes_left}
+use Rattle.world_model.specs.Refusals.{Settles}
+use Rattle.world_model.specs.Settling.{takes_left}
 use Rattle.world_core.proofs.world.WorldOver.settle.Given as goal
 
 abbrev pub invariant-takes : goal.invariant-takes

@@ -1,9 +1,9 @@
 use Rattle.std.proofs.Common.{◌≡◌, ◌≢◌, length, ap, arith, rules}
 use Rattle.std.proofs.lemmas.List.{with_items_is}
-use Rattle.monitor_2pc.specs.Coordinators.{Idle}
+use Rattle.two_phase.specs.Coordinators.{Idle}
 use Rattle.world_events.specs.declared.event.Event.TheVariants.{Start}
 use Rattle.world_core.specs.Keeping.{seen_world}
-use Rattle.world_core.specs.Refusals.{WorldRefuses}
+use Rattle.world_model.specs.Refusals.{WorldRefuses}
 use Rattle.world_core.proofs.Begin.{on_err}
 use Rattle.world_core.proofs.EventKeeping.{told_no_memory, told_err, start_no_memory}
 use Rattle.world_core.proofs.world.WorldOver.start.Goals as goal

@@ -1,9 +1,9 @@
 use Rattle.std.proofs.Common.{◌≡◌, ◌≢◌, ◌-◌, ◌<◌, suc, length, ap, arith, rules, refl}
 use Rattle.std.proofs.lemmas.List.{with_items_is}
-use Rattle.monitor_2pc.specs.Coordinators.{Idle}
+use Rattle.two_phase.specs.Coordinators.{Idle}
 use Rattle.world_core.specs.Keeping.{seen_world}
 use Rattle.world_core.proofs.EventKeeping.{told_as, start_for_refuses, has_channel, no_channel}
-use Rattle.world_core.proofs.Standing.{ok_stands}
+use Rattle.world_model.proofs.Standing.{ok_stands}
 use Rattle.world_core.proofs.world.WorldOver.start_for.Goals as goal
 use Rattle.world_core.proofs.world.WorldOver.start_for.Goals.{then-core-eq0-via-then-core-eq0, then-core-eq0-via-else-core-eq0+then-from-len}
 

@@ -1,4 +1,4 @@
-use Rattle.world_core.specs.Settling.{IsTaken}
+use Rattle.world_model.specs.Settling.{IsTaken}
 use Rattle.world_core.proofs.Settled.{taken_leaves, down_none, next_after}
 use Rattle.world_core.proofs.world.WorldOver.take_next.Goals as goal
 

@@ -1,7 +1,7 @@
 use Rattle.std.proofs.Common.{rules, ◌≡◌, ◌∙◌, ◌-◌, ◌<◌, inl, inr, ℕ, suc, false, Some, [], slice_get, ap, sym, subst, arith}
 use Rattle.world_events.specs.declared.event.Event.TheVariants.{Take}
 use Rattle.world_model.specs.Worlds.{Peer, World, Happens}
-use Rattle.world_core.specs.Refusals.{WorldRefuses}
+use Rattle.world_model.specs.Refusals.{WorldRefuses}
 use Rattle.world_model.proofs.Lists.{same_or_not}
 use Rattle.world_core.proofs.Settled.{next_up, refused_up}
 use Rattle.world_core.proofs.world.WorldOver.take_to_core_0.Goals as goal

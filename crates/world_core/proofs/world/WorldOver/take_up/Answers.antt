@@ -2,7 +2,7 @@ use Rattle.std.proofs.Common.{◌≡◌, ◌∙◌, ◌-◌, ◌<◌, Some, suc,
 use Rattle.std.proofs.lemmas.List.{with_items_is}
 use Rattle.world_events.specs.declared.event.Event.TheVariants.{Take}
 use Rattle.world_core.specs.Keeping.{seen_world}
-use Rattle.world_core.specs.Refusals.{WorldRefuses}
+use Rattle.world_model.specs.Refusals.{WorldRefuses}
 use Rattle.world_core.proofs.Begin.{on_err}
 use Rattle.world_core.proofs.EventKeeping.{told_no_memory, told_err, up_oldest, up_nothing, up_no_memory, heard_no_memory, no_channel}
 use Rattle.world_core.proofs.world.WorldOver.take_up.Goals as goal

@@ -4,12 +4,12 @@ use Rattle.filter_table.specs.Limits.{TableLimits}
 use Rattle.filter_table.specs.declared.operation.Op.{Op}
 use Rattle.monitor_messages.specs.declared.message.Message.{Message}
 use Rattle.filter_table.specs.Tables.{HasShortProgram}
-use Rattle.monitor_2pc.specs.Coordinators.{Idle}
+use Rattle.two_phase.specs.Coordinators.{Idle}
 use Rattle.world_events.specs.declared.event.Event.{Event}
 use Rattle.world_events.specs.declared.event.Event.TheVariants.{Start, Submit, StartFor, Take, Rx}
 use Rattle.world_events.specs.declared.event.Done.{Done}
-use Rattle.world_core.specs.declared.fault.BootFault.{BootFault}
-use Rattle.world_core.specs.declared.fault.BootFault.TheVariants as boot_fault
+use Rattle.world_events.specs.declared.boot.BootFault.{BootFault}
+use Rattle.world_events.specs.declared.boot.BootFault.TheVariants as boot_fault
 use Rattle.world_events.specs.declared.fault.WorldFault.{WorldFault}
 use Rattle.world_events.specs.declared.fault.WorldFault.TheVariants.{NoSuchCore, Nothing, NotReady, NotIdle, Spent, Outstanding, NoneWaiting, NoMemory}
 use Rattle.world_model.specs.Worlds.{Peer, World, version_at, Happens, Run}

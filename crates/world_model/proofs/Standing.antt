@@ -9,7 +9,7 @@ use Rattle.world_events.specs.declared.event.Answer.{Answer}
 use Rattle.world_model.specs.Worlds.{Peer, World, Happens}
 use Rattle.world_events.specs.declared.fault.WorldFault.{WorldFault}
 use Rattle.world_events.specs.declared.fault.WorldFault.TheVariants.{NoSuchCore, Nothing, NotReady, NotIdle, Spent, Outstanding, NoneWaiting, NoMemory}
-use Rattle.world_core.specs.Refusals.{channel, waiting_at, NoneStands}
+use Rattle.world_model.specs.Refusals.{channel, waiting_at, NoneStands}
 
 is_joined : (w : World) (entry : ℕ) (peer : Peer) → slice_get w.peers entry ≡ Some peer → channel w zero (suc entry) ≢ None
 is_joined w entry peer at none = let x : option_map (λ (p : Peer). p.up) (slice_get w.peers entry) ≡ Some peer.up = ap (option_map (λ (p : Peer). p.up)) at in cc

@@ -1,7 +1,7 @@
 //! Why a machine does not begin.
 
 ghost use Rattle.std.specs.Prelude.{◌≡◌};
-ghost use Rattle.world_core.specs.declared.fault.BootFault.TheVariants as boot_fault;
+ghost use Rattle.world_events.specs.declared.boot.BootFault.TheVariants as boot_fault;
 
 use std::alloc::AllocError;
 use thiserror::Error;

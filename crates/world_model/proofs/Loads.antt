@@ -7,8 +7,8 @@ use Rattle.monitor_messages.specs.declared.message.Message.{Message}
 use Rattle.monitor_messages.specs.declared.message.Message.TheVariants as message
 use Rattle.filter_table.specs.declared.decision.Vote.{Vote}
 use Rattle.filter_table.specs.declared.decision.Decision.{Decision}
-use Rattle.monitor_2pc.specs.declared.step.Step.{Step}
-use Rattle.monitor_2pc.specs.Coordinators.{CoordinatorPlace, Requests, Phase, Idle, Voting, Acking, Tallies, waits, commits_all, aborts_all, reply_at, requests_at, reply_of, phase_with}
+use Rattle.two_phase.specs.declared.step.Step.{Step}
+use Rattle.two_phase.specs.Coordinators.{CoordinatorPlace, Requests, Phase, Idle, Voting, Acking, Tallies, waits, commits_all, aborts_all, reply_at, requests_at, reply_of, phase_with}
 use Rattle.world_events.specs.declared.event.Event.TheVariants.{Take}
 use Rattle.world_events.specs.declared.event.Answer.{Answer}
 use Rattle.world_events.specs.declared.event.Done.{Done}
@@ -16,8 +16,8 @@ use Rattle.world_model.specs.Cases.{as_reply, outgoing, sent_up, raised, TakesUp
 use Rattle.world_model.specs.Worlds.{Peer, World, newest, send, sent_out, sent_to_one, gave, HappensUp, HappensDown, Happens}
 use Rattle.world_model.proofs.Lists.{length-slice_set}
 use Rattle.world_model.proofs.Invariant.{Inv, Alone}
-use Rattle.world_core.specs.Refusals.{IsNext}
-use Rattle.world_core.specs.Settling.{weight, load, loads, votes_cast, outcomes_due, reply_due, takes_left}
+use Rattle.world_model.specs.Refusals.{IsNext}
+use Rattle.world_model.specs.Settling.{weight, load, loads, votes_cast, outcomes_due, reply_due, takes_left}
 
 -- What is added and taken away
 

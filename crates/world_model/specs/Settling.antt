@@ -3,10 +3,10 @@ use Rattle.std.specs.Prelude.{◌≡◌, ◌+◌, ◌*◌, ◌<◌, ℕ, Option,
 use Rattle.monitor_messages.specs.declared.message.Message.{Message}
 use Rattle.monitor_messages.specs.declared.message.Message.TheVariants as message
 use Rattle.filter_table.specs.declared.decision.Vote.{Vote}
-use Rattle.monitor_2pc.specs.Coordinators.{Phase, Idle, Voting}
+use Rattle.two_phase.specs.Coordinators.{Phase, Idle, Voting}
 use Rattle.world_events.specs.declared.event.Done.{Done}
 use Rattle.world_model.specs.Worlds.{Peer, World, Happens}
-use Rattle.world_core.specs.Refusals.{AllQuiet, IsNext}
+use Rattle.world_model.specs.Refusals.{AllQuiet, IsNext}
 
 -- the takes that a message leads to, its own included, but for what core 0 says once all have voted
 abbrev pub weight : Message → ℕ
