@@ -32,7 +32,7 @@ run_all() {
     echo "$name $2: $((number - 1)) growths refused in turn: $passed passed, $unprepared ended in their own preparation"
 }
 
-[ $# -gt 0 ] || set -- tests_filters tests_table tests_machines tests_program
+[ $# -gt 0 ] || set -- tests_filters tests_table tests_machines tests_threads tests_program
 for name; do
     built=$here/../crates/$name/out/${name}_tests
     [ -x "$built" ] || (cd "$here/../crates/$name" && rt test) > "$work/build.log" 2>&1 || { tail -20 "$work/build.log"; exit 1; }

@@ -1,5 +1,5 @@
 -- The programs of the filters, each once, and a filter by its id.
-use Rattle.std.proofs.Common.{◌≡◌, ◌<◌, ◌+◌, ◌==◌, ℕ, zero, suc, Bool, true, false, cond, count_by, Option, Some, None, is_some, List, [], ◌∷◌, map, filter, length, slice_get, refl, ap, sym, ◌∙◌, subst, arith, nat_eq}
+use Rattle.std.proofs.Common.{◌≡◌, ◌<◌, ◌+◌, ◌==◌, ℕ, zero, suc, Bool, true, false, cond, count_by, Option, Some, None, is_some, List, [], ◌∷◌, map, filter, length, slice_get, refl, ap, sym, ◌∙◌, subst, arith, nat_eq, nat_le}
 use Rattle.std.proofs.lemmas.Option.{slice_get-get_or, get_or_from_slice_get}
 use Rattle.std.proofs.lemmas.Bool.{ltb-true, lt-ltb}
 use Rattle.std.proofs.lemmas.List.Recursion.{is_count_by}
@@ -58,6 +58,23 @@ none_lendable slots rows is = subst (AreLendable slots) (sym is) (record { progr
 
 pub first_lendable : (slots : List (Option Slot)) (rows rest : List (ℕ × Row)) (e : ℕ × Row) → rows ≡ e ∷ rest → AreLendable slots rows → e.0 < 4294967296
 first_lendable slots rows rest e is known = (subst (AreLendable slots) is known).ids e (in_head e rest)
+
+-- those from an id on
+pub lendable_from : (slots : List (Option Slot)) (rows : List (ℕ × Row)) (id : ℕ) → AreLendable slots rows → AreLendable slots (filter (λ (e : ℕ × Row). nat_le id e.0) rows)
+lendable_from slots rows id all = record {
+  programs = λ x at. all.programs x (from_filter (λ (e : ℕ × Row). nat_le id e.0) rows x at).0;
+  ids = λ x at. all.ids x (from_filter (λ (e : ℕ × Row). nat_le id e.0) rows x at).0;
+}
+
+pub listed_from : (slots : List (Option Slot)) (rows : List (ℕ × Row)) (id : ℕ)
+    → map (listed_row slots) (filter (λ (e : ℕ × Row). nat_le id e.0) rows) ≡ filter (λ (f : ListedFilter). nat_le id f.id) (map (listed_row slots) rows)
+listed_from slots [] id = refl
+listed_from slots (e ∷ rows) id = by_test (nat_le id e.0) refl (listed_from slots rows id)
+  where
+    by_test : (b : Bool) → nat_le id e.0 ≡ b → map (listed_row slots) (filter (λ (x : ℕ × Row). nat_le id x.0) rows) ≡ filter (λ (f : ListedFilter). nat_le id f.id) (map (listed_row slots) rows)
+        → map (listed_row slots) (filter (λ (x : ℕ × Row). nat_le id x.0) (e ∷ rows)) ≡ filter (λ (f : ListedFilter). nat_le id f.id) (map (listed_row slots) (e ∷ rows))
+    by_test true t rest = rw t (ap (λ (fs : List ListedFilter). listed_row slots e ∷ fs) rest)
+    by_test false t rest = rw t rest
 
 -- Programs
 

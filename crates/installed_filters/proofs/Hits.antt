@@ -1,54 +1,80 @@
 -- The hits of a packet.
-use Rattle.std.proofs.Common.{◌≡◌, ◌<◌, ◌≤◌, ◌+◌, ◌/◌, ◌%◌, inl, inr, ℕ, true, Some, is_some, List, [], ◌∷◌, length, min, refl, ap, sym, ◌∙◌, subst, arith, get_or, set, slice_get, replicate}
+use Rattle.std.proofs.Common.{◌≡◌, ◌<◌, ◌≤◌, ◌+◌, ◌/◌, ◌%◌, ◌++◌, Contains, append_assoc, append-nil, inl, inr, ℕ, true, Some, is_some, List, [], ◌∷◌, length, min, refl, ap, sym, ◌∙◌, subst, arith, get_or, set, slice_get, replicate}
 use Rattle.std.proofs.lemmas.Bool.{cases_lt, cases_eq}
 use Rattle.std.proofs.lemmas.List.{get_or-set_same, get_or-set_other, get_or-replicate, get_or_past, length-replicate}
+use Rattle.std.proofs.lemmas.List.Elements.{Contains-append_cases, Contains-append_left, Contains-append_right}
 use Rattle.std.proofs.lemmas.Option.{slice_get_within}
 use Rattle.chunked.specs.Maps.{SortedMap, value_at}
 use Rattle.filter_group.specs.declared.lockstep.Hit.{Hit}
 use Rattle.filter_group.proofs.Edits.{contains_at, at_contains}
 use Rattle.filter_group.proofs.Sides.{one_thing}
 use Rattle.filter_table.specs.declared.delivery.Kept.{Kept}
+use Rattle.filter_table.proofs.Lists.{never, in_head, in_tail, in_map, was_mapped, first_or_later}
 use Rattle.installed_filters.specs.Counts.{numbers, reach_at, reach_key, AreIndexed, AreWithin, AreReachKeys, no_counts, ends_at}
-use Rattle.installed_filters.specs.Keeping.{AreKept, AreApart, AreNoted, GetsBy, GetsBefore, GetsOr, GetsNoted}
+use Rattle.installed_filters.specs.Keeping.{raises_by, raises_of, AreKept, AreApart, AreNoted, GetsBy, GetsNoted, IsRaised}
 use Rattle.filter_table.specs.Raising.{at_endpoint}
-use Rattle.installed_filters.proofs.Raised.{kept_alike, kept_none}
-use Rattle.installed_filters.proofs.Walks.{keep_one}
+use Rattle.installed_filters.proofs.Raised.{kept_alike}
+use Rattle.installed_filters.proofs.Gathered.{raised_all, raised_more, raised_none}
+use Rattle.installed_filters.proofs.Walks.{entry_of, has_entry}
 use Rattle.installed_filters.proofs.Indexed.{key_endpoint, key_number}
 
 -- One hit after the other
 
-pub before_none : (ends : List (SortedMap ℕ)) (hits : List Hit) (captured : ℕ) → AreKept (GetsBefore ends hits 0) captured []
-before_none ends hits captured = kept_none (GetsBefore ends hits 0) captured (λ e v g. let low = g.2 in omega arith)
+pub raises_by-push : (ends : List (SortedMap ℕ)) (hits : List Hit) (hit : Hit) → raises_by ends (hits ++ hit ∷ []) ≡ raises_by ends hits ++ raises_of (ends_at ends hit.member).entries hit.verdict
+raises_by-push ends [] hit = append-nil (raises_of (ends_at ends hit.member).entries hit.verdict)
+raises_by-push ends (h ∷ hits) hit =
+    let own = raises_of (ends_at ends h.member).entries h.verdict in
+    ap (λ (ks : List Kept). own ++ ks) (raises_by-push ends hits hit) ∙ sym (append_assoc own (raises_by ends hits) (raises_of (ends_at ends hit.member).entries hit.verdict))
 
-pub before_more : (ends : List (SortedMap ℕ)) (hits : List Hit) (index : ℕ) (hit : Hit) (captured : ℕ) (kept : List Kept) → slice_get hits index ≡ Some hit
-    → AreKept (GetsOr ends hits index (ends_at ends hit.member).entries hit.verdict) captured kept → AreKept (GetsBefore ends hits (index + 1)) captured kept
-before_more ends hits index hit captured kept at h = kept_alike (GetsOr ends hits index (ends_at ends hit.member).entries hit.verdict) (GetsBefore ends hits (index + 1)) captured kept
-    (λ e v g. elim g [
-      | inl early ↦ (early.0, early.1, (let low = early.2 in omega arith), early.3, early.4, early.5)
-      | inr mine ↦ (index, hit, omega arith, at, mine.0, sym mine.1)
-    ])
-    (λ e v g. elim (cases_lt g.0 index) [
-      | inl low ↦ inl (g.0, g.1, low, g.3, g.4, g.5)
-      | inr past ↦
-          let here : g.0 ≡ index = let low = g.2 in omega arith in
-          let same : g.1 ≡ hit = one_thing hits index g.1 hit (subst (λ (k : ℕ). slice_get hits k ≡ Some g.1) here g.3) at in
-          inr (subst (λ (x : Hit). is_some (reach_at ends x.member e) ≡ true) same g.4, sym g.5 ∙ ap (λ (x : Hit). x.verdict) same)
-    ]) h
+is_gotten : (ends : List (SortedMap ℕ)) (hits : List Hit) (e v : ℕ) → IsRaised (raises_by ends hits) e v → GetsBy ends hits e v
+is_gotten ends [] e v at = absurd (never _ at)
+is_gotten ends (hit ∷ hits) e v at =
+    let entries = (ends_at ends hit.member).entries in
+    elim (Contains-append_cases (raises_of entries hit.verdict) (raises_by ends hits) (at_endpoint e v) at) [
+      | inl own ↦
+          let was = was_mapped (λ (x : ℕ × ℕ). at_endpoint x.0 hit.verdict) entries (at_endpoint e v) own in
+          let here : was.0.0 ≡ e = ap (λ (k : Kept). k.endpoint) was.2 in (
+            hit,
+            in_head hit hits,
+            subst (λ (n : ℕ). is_some (value_at entries n) ≡ true) here (has_entry entries was.0.0 was.0.1 was.1),
+            ap (λ (k : Kept). k.kept) was.2,
+          )
+      | inr later ↦ (let g = is_gotten ends hits e v later in (g.0, in_tail hit hits g.0 g.1, g.2, g.3))
+    ]
 
-pub before_all : (ends : List (SortedMap ℕ)) (hits : List Hit) (index captured : ℕ) (kept : List Kept) → length hits ≤ index → AreKept (GetsBefore ends hits index) captured kept → AreKept (GetsBy ends hits) captured kept
-before_all ends hits index captured kept all h = kept_alike (GetsBefore ends hits index) (GetsBy ends hits) captured kept
-    (λ e v g. (g.1, contains_at hits g.0 g.1 g.3, g.4, g.5))
-    (λ e v g. (let at = at_contains hits g.0 g.1 in let inside = slice_get_within hits at.0 g.0 at.1 in (at.0, g.0, omega arith, at.1, g.2, g.3))) h
+was_raised : (ends : List (SortedMap ℕ)) (hits : List Hit) (e v : ℕ) (hit : Hit) → Contains hits hit → is_some (reach_at ends hit.member e) ≡ true → hit.verdict ≡ v → IsRaised (raises_by ends hits) e v
+was_raised ends [] e v hit at some is = absurd (never hit at)
+was_raised ends (h ∷ hits) e v hit at some is =
+    let own = raises_of (ends_at ends h.member).entries h.verdict in
+    elim (first_or_later h hits hit at) [
+      | inl same ↦
+          let entries = (ends_at ends h.member).entries in
+          let found = entry_of entries e (subst (λ (x : Hit). is_some (reach_at ends x.member e) ≡ true) (sym same) some) in
+          let mine = in_map (λ (x : ℕ × ℕ). at_endpoint x.0 h.verdict) entries (e, found.0) found.1 in
+          Contains-append_left own (raises_by ends hits) (at_endpoint e v) (subst (λ (n : ℕ). Contains own (at_endpoint e n)) (ap (λ (x : Hit). x.verdict) same ∙ is) mine)
+      | inr later ↦ Contains-append_right own (raises_by ends hits) (at_endpoint e v) (was_raised ends hits e v hit later some is)
+    ]
+
+-- the endpoints of the raises are those that get the packet
+pub raised_gets : (ends : List (SortedMap ℕ)) (hits : List Hit) (captured : ℕ) (kept : List Kept) → AreKept (IsRaised (raises_by ends hits)) captured kept → AreKept (GetsBy ends hits) captured kept
+raised_gets ends hits captured kept h = kept_alike (IsRaised (raises_by ends hits)) (GetsBy ends hits) captured kept (is_gotten ends hits) (λ e v g. was_raised ends hits e v g.0 g.1 g.2 g.3) h
+
+raised_one : (endpoint verdict captured : ℕ) → AreKept (IsRaised (at_endpoint endpoint verdict ∷ [])) captured (at_endpoint endpoint (min verdict captured) ∷ [])
+raised_one endpoint verdict captured =
+    let raises = at_endpoint endpoint verdict ∷ [] in
+    raised_all raises captured 1 (at_endpoint endpoint (min verdict captured) ∷ []) (omega arith) (raised_more raises captured 0 endpoint verdict [] refl (raised_none raises captured))
 
 -- one hit whose program has one endpoint
 pub kept_of_one : (ends : List (SortedMap ℕ)) (hits : List Hit) (hit : Hit) (endpoint count captured : ℕ) → slice_get hits 0 ≡ Some hit → length hits < 2 → (ends_at ends hit.member).entries ≡ (endpoint, count) ∷ []
     → AreKept (GetsBy ends hits) captured (at_endpoint endpoint (min hit.verdict captured) ∷ [])
-kept_of_one ends hits hit endpoint count captured at single one =
-    let most = min hit.verdict captured in
-    let now = at_endpoint endpoint most ∷ [] in
-    let entries = (ends_at ends hit.member).entries in
-    let kept = keep_one entries endpoint count [] now most one tt refl ends hits 0 captured hit.verdict refl (before_none ends hits captured) in
-    before_all ends hits 1 captured now (omega arith) (before_more ends hits 0 hit captured now at kept)
+kept_of_one ends [] hit endpoint count captured at single one = absurd cc
+kept_of_one ends (h ∷ []) hit endpoint count captured at single one =
+    let same : h ≡ hit = cc in
+    let raises : raises_by ends (h ∷ []) ≡ at_endpoint endpoint hit.verdict ∷ [] =
+    ap (λ (x : Hit). raises_of (ends_at ends x.member).entries x.verdict ++ []) same ∙ ap (λ (es : List (ℕ × ℕ)). raises_of es hit.verdict ++ []) one in
+    raised_gets ends (h ∷ []) captured (at_endpoint endpoint (min hit.verdict captured) ∷ [])
+    (subst (λ (rs : List Kept). AreKept (IsRaised rs) captured (at_endpoint endpoint (min hit.verdict captured) ∷ [])) (sym raises) (raised_one endpoint hit.verdict captured))
+kept_of_one ends (h ∷ other ∷ hits) hit endpoint count captured at single one = absurd (omega arith)
 
 -- Verdicts that are noted
 

@@ -12,6 +12,7 @@ pub mod Received
 pub mod Swapped
 pub mod Exchanged
 pub mod Raised
+pub mod Gathered
 pub mod Walks
 pub mod Indexed
 pub mod Hits

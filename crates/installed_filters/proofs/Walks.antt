@@ -1,5 +1,5 @@
 -- Walks over endpoints, each of which is raised.
-use Rattle.std.proofs.Common.{◌≡◌, ◌<◌, ◌≤◌, ◌+◌, ◌/◌, ◌%◌, ◌⊎◌, inl, inr, ℕ, suc, Bool, true, false, is_some, min, List, [], ◌∷◌, ◌++◌, length, take, Contains, append_assoc, refl, ap, sym, ◌∙◌, subst, arith, nat_eq, Less, get_or, slice_index}
+use Rattle.std.proofs.Common.{◌≡◌, ◌<◌, ◌≤◌, ◌+◌, ◌/◌, ◌%◌, ◌⊎◌, inl, inr, ℕ, suc, Bool, true, false, is_some, min, List, [], ◌∷◌, ◌++◌, length, take, Contains, append_assoc, append-nil, refl, ap, sym, ◌∙◌, subst, arith, nat_eq, Less, get_or, slice_index}
 use Rattle.std.specs.Map.{keys_of}
 use Rattle.std.specs.List.{All, AllByRecursion}
 use Rattle.std.specs.List.Sorted.{IsStrictlyIncreasing, IsStrictlySortedBy}
@@ -12,11 +12,11 @@ use Rattle.std.proofs.lemmas.Map.Keys.{sorted_from_strictly_increasing}
 use Rattle.chunked.specs.Maps.{SortedMap, value_at}
 use Rattle.filter_table.specs.declared.delivery.Kept.{Kept}
 use Rattle.filter_table.specs.Tables.{IsIncreasing}
-use Rattle.filter_table.proofs.Lists.{never, in_head, in_tail, first_or_later}
+use Rattle.filter_table.proofs.Lists.{never, in_head, in_tail, first_or_later, map-append'}
 use Rattle.filter_group.specs.declared.lockstep.Hit.{Hit}
 use Rattle.installed_filters.specs.Counts.{numbers}
-use Rattle.installed_filters.specs.Keeping.{AreKept, GetsBefore, GetsOr, GetsNoted}
-use Rattle.filter_table.specs.Raising.{raised}
+use Rattle.installed_filters.specs.Keeping.{raises_of, AreKept, GetsNoted}
+use Rattle.filter_table.specs.Raising.{at_endpoint, raised}
 use Rattle.installed_filters.proofs.Raised.{kept_alike, kept_none, kept_raised}
 use Rattle.filter_table.proofs.Raised.{raised_increases}
 
@@ -90,74 +90,28 @@ module _ {V : Type 0} where
 
 -- The endpoints of one program
 
-abbrev GetsDone : List (SortedMap ℕ) → List Hit → ℕ → List (ℕ × ℕ) → ℕ → ℕ → ℕ → Type 0
-GetsDone ends hits index done most e v = GetsBefore ends hits index e v ⊎ (((count : ℕ) × Contains done (e, count)) × (v ≡ most))
-
-pub record Keeping (entries rest : List (ℕ × ℕ)) (before now : List Kept) (most : ℕ) : Type 0 where
+pub record Raising (entries rest : List (ℕ × ℕ)) (before now : List Kept) (verdict : ℕ) : Type 0 where
   pub done : List (ℕ × ℕ)
   pub whole : done ++ rest ≡ entries
-  pub increasing : IsIncreasing now
-  pub kept : (ends : List (SortedMap ℕ)) (hits : List Hit) (index captured verdict : ℕ) → most ≡ min verdict captured
-      → AreKept (GetsBefore ends hits index) captured before → AreKept (GetsDone ends hits index done verdict) captured now
+  pub now_is : now ≡ before ++ raises_of done verdict
 
-pub keeping_begins : (entries rest : List (ℕ × ℕ)) (before : List Kept) (most : ℕ) → rest ≡ entries → IsIncreasing before → Keeping entries rest before before most
-keeping_begins entries rest before most all increasing = record {
-  done = [];
-  whole = all;
-  increasing = increasing;
-  kept = λ ends hits index captured verdict is h. kept_alike (GetsBefore ends hits index) (GetsDone ends hits index [] verdict) captured before
-      (λ e v g. inl g) (λ e v g. elim g [ inl old ↦ old | inr none ↦ absurd (never _ none.0.1) ]) h;
-}
+pub raising_begins : (entries rest : List (ℕ × ℕ)) (before : List Kept) (verdict : ℕ) → rest ≡ entries → Raising entries rest before before verdict
+raising_begins entries rest before verdict all = record { done = []; whole = all; now_is = sym (append-nil before) }
 
-pub keeping_more : (entries : List (ℕ × ℕ)) (entry : ℕ × ℕ) (rest : List (ℕ × ℕ)) (before now after : List Kept) (most endpoint : ℕ) → endpoint ≡ entry.0 → after ≡ raised now endpoint most
-    → Keeping entries (entry ∷ rest) before now most → Keeping entries rest before after most
-keeping_more entries entry rest before now after most endpoint at is h = record {
+pub raising_more : (entries : List (ℕ × ℕ)) (entry : ℕ × ℕ) (rest : List (ℕ × ℕ)) (before now after : List Kept) (verdict : ℕ) → after ≡ now ++ at_endpoint entry.0 verdict ∷ []
+    → Raising entries (entry ∷ rest) before now verdict → Raising entries rest before after verdict
+raising_more entries entry rest before now after verdict is h = record {
   done = h.done ++ entry ∷ [];
   whole = whole_more entries h.done entry rest h.whole;
-  increasing = subst IsIncreasing (sym is) (raised_increases now endpoint most h.increasing);
-  kept = λ ends hits index captured verdict limit old.
-      let was = h.kept ends hits index captured verdict limit old in
-      let raised_is : raised now endpoint (min verdict captured) ≡ after = ap (raised now endpoint) (sym limit) ∙ sym is in
-      subst (λ (ks : List Kept). AreKept (GetsDone ends hits index (h.done ++ entry ∷ []) verdict) captured ks) raised_is
-      (kept_alike (λ e v. GetsDone ends hits index h.done verdict e v ⊎ ((e ≡ endpoint) × (v ≡ verdict))) (GetsDone ends hits index (h.done ++ entry ∷ []) verdict) captured (raised now endpoint (min verdict captured))
-      (to ends hits index verdict) (back ends hits index verdict) (kept_raised (GetsDone ends hits index h.done verdict) captured now endpoint verdict was));
+  now_is = is ∙ (ap (λ (ks : List Kept). ks ++ at_endpoint entry.0 verdict ∷ []) h.now_is ∙ (append_assoc before (raises_of h.done verdict) (at_endpoint entry.0 verdict ∷ [])
+      ∙ ap (λ (ks : List Kept). before ++ ks) (sym (map-append' (λ (e : ℕ × ℕ). at_endpoint e.0 verdict) h.done (entry ∷ [])))));
 }
-  where
-    to : (ends : List (SortedMap ℕ)) (hits : List Hit) (index verdict e v : ℕ) → GetsDone ends hits index h.done verdict e v ⊎ ((e ≡ endpoint) × (v ≡ verdict)) → GetsDone ends hits index (h.done ++ entry ∷ []) verdict e v
-    to ends hits index verdict e v (inl (inl old)) = inl old
-    to ends hits index verdict e v (inl (inr early)) = inr ((early.0.0, Contains-append_left h.done (entry ∷ []) (e, early.0.0) early.0.1), early.1)
-    to ends hits index verdict e v (inr mine) = inr ((entry.1, subst (λ (n : ℕ). Contains (h.done ++ entry ∷ []) (n, entry.1)) (sym (mine.0 ∙ at)) (Contains-push h.done entry)), mine.1)
 
-    back : (ends : List (SortedMap ℕ)) (hits : List Hit) (index verdict e v : ℕ) → GetsDone ends hits index (h.done ++ entry ∷ []) verdict e v → GetsDone ends hits index h.done verdict e v ⊎ ((e ≡ endpoint) × (v ≡ verdict))
-    back ends hits index verdict e v (inl old) = inl (inl old)
-    back ends hits index verdict e v (inr one) = elim (Contains-push_cases h.done entry (e, one.0.0) one.0.1) [
-      | inl early ↦ inl (inr ((one.0.0, early), one.1))
-      | inr same ↦ inr (sym (ap (λ (x : ℕ × ℕ). x.0) same) ∙ sym at, one.1)
-    ]
+pub raising_all : (entries rest : List (ℕ × ℕ)) (before now : List Kept) (verdict : ℕ) → rest ≡ [] → Raising entries rest before now verdict → now ≡ before ++ raises_of entries verdict
+raising_all entries rest before now verdict none h = h.now_is ∙ ap (λ (es : List (ℕ × ℕ)). before ++ raises_of es verdict) (whole_done entries h.done rest none h.whole)
 
-pub keeping_all : (entries rest : List (ℕ × ℕ)) (before now : List Kept) (most : ℕ) → rest ≡ [] → Keeping entries rest before now most
-    → (ends : List (SortedMap ℕ)) (hits : List Hit) (index captured verdict : ℕ) → most ≡ min verdict captured → AreKept (GetsBefore ends hits index) captured before → AreKept (GetsOr ends hits index entries verdict) captured now
-keeping_all entries rest before now most none h ends hits index captured verdict limit old =
-    kept_alike (GetsDone ends hits index h.done verdict) (GetsOr ends hits index entries verdict) captured now
-    (λ e v g. elim g [ inl early ↦ inl early | inr one ↦ inr (has_entry entries e one.0.0 (subst (λ (es : List (ℕ × ℕ)). Contains es (e, one.0.0)) all one.0.1), one.1) ])
-    (λ e v g. elim g [ inl early ↦ inl early | inr one ↦ (let found = entry_of entries e one.0 in inr ((found.0, subst (λ (es : List (ℕ × ℕ)). Contains es (e, found.0)) (sym all) found.1), one.1)) ])
-    (h.kept ends hits index captured verdict limit old)
-  where
-    all : h.done ≡ entries
-    all = whole_done entries h.done rest none h.whole
-
-pub keeping_key : (entries : List (ℕ × ℕ)) (entry : ℕ × ℕ) (rest : List (ℕ × ℕ)) (before now : List Kept) (most : ℕ) → Keeping entries (entry ∷ rest) before now most → is_some (value_at entries entry.0) ≡ true
-keeping_key entries entry rest before now most h = has_entry entries entry.0 entry.1 (subst (λ (es : List (ℕ × ℕ)). Contains es entry) h.whole (in_middle h.done entry rest))
-
--- a program with no endpoint, or with one
-pub keep_none : (entries : List (ℕ × ℕ)) (before : List Kept) (most : ℕ) → entries ≡ [] → IsIncreasing before
-    → (ends : List (SortedMap ℕ)) (hits : List Hit) (index captured verdict : ℕ) → most ≡ min verdict captured → AreKept (GetsBefore ends hits index) captured before → AreKept (GetsOr ends hits index entries verdict) captured before
-keep_none entries before most none increasing = keeping_all entries entries before before most none (keeping_begins entries entries before most refl increasing)
-
-pub keep_one : (entries : List (ℕ × ℕ)) (endpoint count : ℕ) (before now : List Kept) (most : ℕ) → entries ≡ (endpoint, count) ∷ [] → IsIncreasing before → now ≡ raised before endpoint most
-    → (ends : List (SortedMap ℕ)) (hits : List Hit) (index captured verdict : ℕ) → most ≡ min verdict captured → AreKept (GetsBefore ends hits index) captured before → AreKept (GetsOr ends hits index entries verdict) captured now
-keep_one entries endpoint count before now most one increasing is =
-    keeping_all entries [] before now most refl (keeping_more entries (endpoint, count) [] before before now most endpoint refl is (keeping_begins entries ((endpoint, count) ∷ []) before most (sym one) increasing))
+pub raising_key : (entries : List (ℕ × ℕ)) (entry : ℕ × ℕ) (rest : List (ℕ × ℕ)) (before now : List Kept) (verdict : ℕ) → Raising entries (entry ∷ rest) before now verdict → is_some (value_at entries entry.0) ≡ true
+raising_key entries entry rest before now verdict h = has_entry entries entry.0 entry.1 (subst (λ (es : List (ℕ × ℕ)). Contains es entry) h.whole (in_middle h.done entry rest))
 
 -- The endpoints of all programs
 

@@ -1,5 +1,5 @@
 //! The filters by their ids, and which of them are under which capability.
-ghost use Rattle.std.specs.Prelude.{◌≡◌, ◌==◌, ◌&&◌, ◌<◌, ℕ, [], None, Some, true, false, IsTrue, if◌then◌else◌, length, filter, nat_eq, IfOk, OnOk};
+ghost use Rattle.std.specs.Prelude.{◌≡◌, ◌==◌, ◌&&◌, ◌<◌, ℕ, [], None, Some, true, false, IsTrue, if◌then◌else◌, length, filter, nat_eq, nat_le, IfOk, OnOk};
 ghost use Rattle.std.specs.BTreeMap.{insert_entry};
 ghost use Rattle.std.specs.List.Sorted.{IsStrictlyIncreasing};
 ghost use Rattle.std.specs.Ordering.{nat_cmp};
@@ -85,6 +85,13 @@ impl Rows {
         ensures order { IsStrictlyIncreasing (keys_of self.now.entries) }
     {
         self.rows.iter()
+    }
+
+    /// The filters from an id on, in order.
+    pub(crate) fn iter_from(&self, id: u64) -> Items<'_, (u64, Row)>
+        ensures { result ≡ filter (λ e. nat_le id e.0) self.now.entries }
+    {
+        self.rows.iter_from(id)
     }
 
     /// Makes room for one filter more. The filters stay, whatever the result.

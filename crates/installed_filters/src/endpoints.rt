@@ -1,12 +1,9 @@
 //! The endpoints of one program.
-ghost use Rattle.std.specs.Prelude.{◌≡◌, ◌==◌, ◌+◌, ◌-◌, ◌<◌, ◌⊎◌, if◌then◌else◌, ℕ, List, [], ◌∷◌, is_some, true, IfOk, IfSome, OnOk, min};
+ghost use Rattle.std.specs.Prelude.{◌≡◌, ◌==◌, ◌+◌, ◌-◌, ◌<◌, ◌++◌, if◌then◌else◌, ℕ, List, [], ◌∷◌, is_some, true, IfOk, IfSome, OnOk};
 ghost use Rattle.chunked.specs.Maps.{SortedMap, value_at};
-ghost use Rattle.filter_group.specs.declared.lockstep.Hit.{Hit as AnyHit};
-ghost use Rattle.filter_table.specs.Tables.{IsIncreasing};
 ghost use Rattle.installed_filters.specs.Counts.{counted, number_of, counts_in, no_counts, AreSmall, HasRoomFor};
-ghost use Rattle.installed_filters.specs.Keeping.{AreKept, GetsBefore, GetsOr};
+ghost use Rattle.installed_filters.specs.Keeping.{raises_of};
 
-use crate::raising::raise_within;
 use chunked::Sorted;
 use filter_table::Kept;
 use std::alloc::{AllocError, Global};
@@ -139,21 +136,21 @@ impl Endpoints {
         self.held = with_one_less(held, endpoint);
     }
 
-    /// Sees that each endpoint keeps at least so many bytes.
-    pub(crate) fn keep(&self, kept: &mut Vec<Kept>, most: u32) -> Result<(), AllocError>
-        requires increasing { IsIncreasing kept.old.items }
-        ensures increasing { OnOk result (IsIncreasing kept.new.items) }
-        ensures kept { OnOk result ((ends : List (SortedMap ℕ)) (hits : List AnyHit) (index captured verdict : ℕ) → most ≡ min verdict captured
-            → AreKept (GetsBefore ends hits index) captured kept.old.items → AreKept (GetsOr ends hits index self.now.entries verdict) captured kept.new.items) }
+    /// Adds each endpoint with a verdict to the raises of a packet.
+    pub(crate) fn raise(&self, raises: &mut Vec<Kept>, verdict: u32) -> Result<(), AllocError>
+        ensures { OnOk result (raises.new.items ≡ raises.old.items ++ raises_of self.now.entries verdict) }
     {
         match &self.held {
             Held::Nothing => Ok(()),
             Held::One { endpoint, .. } => {
-                raise_within(kept, *endpoint, most)?;
+                raises.push(Kept {
+                    endpoint: *endpoint,
+                    kept: verdict,
+                })?;
                 Ok(())
             }
             Held::Many { all } => {
-                keep_all(all, kept, most)?;
+                raise_all(all, raises, verdict)?;
                 Ok(())
             }
         }
@@ -285,17 +282,16 @@ fn count_down(all: &mut Sorted<u32>, endpoint: u16)
     }
 }
 
-/// Sees that each endpoint of a map keeps at least so many bytes.
-#[inline(never)]
-fn keep_all(all: &Sorted<u32>, kept: &mut Vec<Kept>, most: u32) -> Result<(), AllocError>
+/// Adds each endpoint of a map with a verdict to the raises of a packet.
+fn raise_all(all: &Sorted<u32>, raises: &mut Vec<Kept>, verdict: u32) -> Result<(), AllocError>
     requires small { AreSmall all.now.entries }
-    requires increasing { IsIncreasing kept.old.items }
-    ensures increasing { OnOk result (IsIncreasing kept.new.items) }
-    ensures kept { OnOk result ((ends : List (SortedMap ℕ)) (hits : List AnyHit) (index captured verdict : ℕ) → most ≡ min verdict captured
-        → AreKept (GetsBefore ends hits index) captured kept.old.items → AreKept (GetsOr ends hits index all.now.entries verdict) captured kept.new.items) }
+    ensures { OnOk result (raises.new.items ≡ raises.old.items ++ raises_of all.now.entries verdict) }
 {
     for entry in all.iter() {
-        raise_within(kept, entry.0 as u16, most)?;
+        raises.push(Kept {
+            endpoint: entry.0 as u16,
+            kept: verdict,
+        })?;
     }
     Ok(())
 }

@@ -242,6 +242,7 @@ impl Filters {
             &workspace.lists.hits,
             bytes.len(),
             &mut workspace.verdicts,
+            &mut workspace.raises,
             &mut workspace.kept,
         )?;
         Ok(found)

@@ -7,6 +7,7 @@ mod changes;
 mod coming;
 mod endpoints;
 mod filters;
+mod gathering;
 mod homes;
 mod lapsing;
 mod leaving;

@@ -1,5 +1,5 @@
 //! What is asked of the filters: one by its id, all of them in order, and how many different programs they have.
-ghost use Rattle.std.specs.Prelude.{◌≡◌, ◌<◌, Some, is_some, length};
+ghost use Rattle.std.specs.Prelude.{◌≡◌, ◌<◌, Some, is_some, length, filter, nat_le};
 ghost use Rattle.std.specs.Iterator.{YieldsFirstBy, item_count};
 ghost use Rattle.std.specs.Option.{option_map};
 ghost use Rattle.filter_table.specs.Tables.{filter_at};
@@ -54,6 +54,17 @@ impl Filters {
         let _count = self.rows.len();
         InstalledIter {
             rows: self.rows.iter(),
+            slots: &self.slots,
+        }
+    }
+
+    /// The filters from an id on, in order of installation. Those before it are not walked.
+    pub fn iter_from(&self, id: u32) -> InstalledIter<'_>
+        ensures { result ≡ filter (λ f. nat_le id f.id) (listed self.now.now) }
+    {
+        let _count = self.rows.len();
+        InstalledIter {
+            rows: self.rows.iter_from(u64::from(id)),
             slots: &self.slots,
         }
     }

@@ -5,9 +5,10 @@ ghost use Rattle.chunked.specs.Maps.{SortedMap, value_at};
 ghost use Rattle.filter_group.specs.declared.lockstep.Hit.{Hit as AnyHit};
 ghost use Rattle.installed_filters.specs.Counts.{counted, number_of, no_counts, reach_at, reach_key, HasRoom, HasRoomFor, AreWithin, AreIndexed, AreReachKeys, ends_at};
 ghost use Rattle.installed_filters.specs.Receiving.{kept_by};
-ghost use Rattle.installed_filters.specs.Keeping.{AreKept, AreApart, GetsBy, GetsNoted, AreNoted};
+ghost use Rattle.installed_filters.specs.Keeping.{raises_by, AreKept, AreApart, GetsBy, GetsNoted, AreNoted};
 
 use crate::endpoints::Endpoints;
+use crate::gathering::{FEW_RAISES, gather};
 use crate::raising::raise;
 use crate::receiving::Receivers;
 use chunked::Sorted;
@@ -19,9 +20,9 @@ use std::marker::Model;
 /// How many numbers there may be.
 const NUMBERS: u64 = 4_294_967_296;
 
-/// Where a packet passes at most so many programs, and those of them with several endpoints have at most so many in all, only
-/// these are looked at.
-const FEW_ENDPOINTS: usize = 16;
+/// Where a packet reaches at least one in so many of all numbers and endpoints, all of them are looked at: they are in order, and so
+/// are not sorted.
+const WHOLE_PART: usize = 8;
 
 /// Of each number of a program the endpoints of the filters that have it, with how many filters each has.
 pub(crate) struct Reaches {
@@ -150,6 +151,7 @@ impl Reaches {
         hits: &[Hit],
         captured: usize,
         verdicts: &mut Vec<u32>,
+        raises: &mut Vec<Kept>,
         kept: &mut Vec<Kept>,
     ) -> Result<Receivers, AllocError>
         requires inside { AreWithin self.now.ends hits.now }
@@ -166,7 +168,7 @@ impl Reaches {
             }
             _ => {}
         }
-        self.list_several(hits, captured, verdicts, kept)?;
+        self.list_several(hits, captured, verdicts, raises, kept)?;
         Ok(Receivers::Listed)
     }
 
@@ -178,16 +180,19 @@ impl Reaches {
         hits: &[Hit],
         captured: usize,
         verdicts: &mut Vec<u32>,
+        raises: &mut Vec<Kept>,
         kept: &mut Vec<Kept>,
     ) -> Result<(), AllocError>
         requires inside { AreWithin self.now.ends hits.now }
         requires apart { AreApart hits.now }
         ensures { OnOk result (AreKept (GetsBy self.now.ends hits.now) captured kept.new.items) }
     {
-        if have_few(&self.ends, hits) {
-            keep_few(&self.ends, hits, captured, kept)
+        let most = self.ends.len().saturating_add(self.order.len()) / WHOLE_PART;
+        let reached = count_reached(&self.ends, hits, most);
+        if reached <= FEW_RAISES || reached < most {
+            keep_raised(&self.ends, hits, captured, raises, kept)
         } else {
-            keep_many(&self.ends, &self.order, hits, captured, verdicts, kept)
+            keep_most(&self.ends, &self.order, hits, captured, verdicts, kept)
         }
     }
 }
@@ -243,48 +248,56 @@ fn take_at(ends: &mut Vec<Endpoints>, number: usize, endpoint: u16)
     ends.take(endpoint);
 }
 
-/// Whether the programs that a packet passes have few endpoints.
-fn have_few(ends: &[Endpoints], hits: &[Hit]) -> bool
+/// How many endpoints the programs that a packet passes have, or a number from `most` on where these are as many. A program with several
+/// counts for one more.
+fn count_reached(ends: &[Endpoints], hits: &[Hit], most: usize) -> usize
     requires { AreWithin ends.now hits.now }
 {
-    if hits.len() > FEW_ENDPOINTS {
-        return false;
-    }
-    let mut left = FEW_ENDPOINTS;
+    let mut reached = hits.len();
     for hit in hits {
-        let ends = &ends[hit.member];
-        let count = ends.mapped();
-        if count > left {
-            return false;
+        if reached > FEW_RAISES && reached >= most {
+            return reached;
         }
-        left -= count;
+        let ends = &ends[hit.member];
+        reached = reached.saturating_add(ends.mapped());
     }
-    true
+    reached
 }
 
-/// The endpoints that get a packet whose programs have few: only these are looked at.
-fn keep_few(
+/// The endpoints that get a packet whose programs have not most of the table's: only these are looked at.
+// Not inlined, so that most packets take no room for it on the stack.
+#[inline(never)]
+fn keep_raised(
     ends: &[Endpoints],
     hits: &[Hit],
     captured: usize,
+    raises: &mut Vec<Kept>,
     kept: &mut Vec<Kept>,
 ) -> Result<(), AllocError>
     requires { AreWithin ends.now hits.now }
     ensures { OnOk result (AreKept (GetsBy ends.now hits.now) captured kept.new.items) }
 {
-    kept.clear();
+    list_raises(ends, hits, raises)?;
+    gather(raises, captured, kept)
+}
+
+/// Each endpoint that a packet reaches, with the verdict of each program by which it does, in place of what `raises` had.
+fn list_raises(ends: &[Endpoints], hits: &[Hit], raises: &mut Vec<Kept>) -> Result<(), AllocError>
+    requires { AreWithin ends.now hits.now }
+    ensures { OnOk result (raises.new.items ≡ raises_by ends.now hits.now) }
+{
+    raises.clear();
     for hit in hits {
-        let most = (hit.verdict as usize).min(captured) as u32;
         let ends = &ends[hit.member];
-        ends.keep(kept, most)?;
+        ends.raise(raises, hit.verdict)?;
     }
     Ok(())
 }
 
-/// The endpoints that get a packet whose programs have many: the verdict of each program is noted, and all endpoints are looked at.
-// Not in line, so that most packets take no room for it on the stack.
+/// The endpoints that get a packet whose programs have most: the verdict of each program is noted, and all endpoints are looked at.
+// Not inlined, so that most packets take no room for it on the stack.
 #[inline(never)]
-fn keep_many(
+fn keep_most(
     ends: &[Endpoints],
     order: &Sorted<()>,
     hits: &[Hit],

@@ -18,7 +18,10 @@ pub enum Receivers {
 /// Lists that are used again from packet to packet, so that a receipt takes no memory once they are long enough.
 pub struct Workspace {
     pub(crate) lists: Lists,
+    /// The verdict of each number, where a packet reaches most of the table.
     pub(crate) verdicts: Vec<u32>,
+    /// Each endpoint that a packet reaches, with a verdict, where these are neither few nor most of the table.
+    pub(crate) raises: Vec<Kept>,
     /// The endpoints that get the packet, once it is received and they are listed.
     pub kept: Vec<Kept>,
 }
@@ -29,6 +32,7 @@ impl Drop for Workspace {
         let Workspace {
             lists: _,
             verdicts: _,
+            raises: _,
             kept: _,
         } = self;
     }
@@ -42,6 +46,7 @@ impl Workspace {
         Workspace {
             lists: Lists::new(alloc),
             verdicts: Vec::new(alloc),
+            raises: Vec::new(alloc),
             kept: Vec::new(alloc),
         }
     }
@@ -68,6 +73,7 @@ impl Workspace {
         let Workspace {
             lists: _,
             verdicts: _,
+            raises: _,
             kept,
         } = self;
         kept

@@ -1,5 +1,5 @@
 -- Rows that are put into a room, one after another.
-use Rattle.std.proofs.Common.{◌≡◌, ◌<◌, ◌≤◌, ◌+◌, ℕ, Bool, true, false, List, [], ◌∷◌, ◌++◌, map, filter, set, take, drop, length, min, refl, sym, ap, ◌∙◌, subst, arith, length-append, append_assoc, append-nil}
+use Rattle.std.proofs.Common.{◌≡◌, ◌<◌, ◌≤◌, ◌+◌, ℕ, List, [], ◌∷◌, ◌++◌, set, take, drop, length, min, refl, sym, ap, ◌∙◌, arith, length-append, append_assoc, append-nil}
 use Rattle.std.proofs.lemmas.List.{drop_more, drop_all, set_at, take_all, take_at}
 use Rattle.table_listing.specs.Rows.{laid}
 
@@ -39,19 +39,3 @@ laid_full all left old now count was full =
     let front : take (length old) all ≡ was.done = ap (take (length old)) was.split ∙ take_at was.done left (length old) (sym was.count_is ∙ full) in
     let rest : drop count old ≡ drop (length all) old = drop_all count old (omega (arith, full)) ∙ sym (drop_all (length all) old (omega (arith, full, was.count_is, long))) in
     (was.now_is ∙ ap (λ (l : List _). was.done ++ l) rest ∙ ap (λ (l : List _). l ++ drop (length all) old) (sym front), omega (arith, full, was.count_is, long))
-
--- the next of the items that are left has its row among the rows, or hasn't
-module _ {A B : Type 0} (p : A → Bool) (f : A → B) (all : List B) (items rest : List A) (x : A) (next : items ≡ x ∷ rest) (old now room : List B) (count n : ℕ)
-    (was : Lays all (map f (filter p items)) old now count) where
-  pub lays_kept : (row : B) → p x ≡ true → row ≡ f x → count < length old → room ≡ set now count row → n ≡ count + 1 → Lays all (map f (filter p rest)) old room n
-  lays_kept row passes is below room_is count_is =
-      let cut : map f (filter p items) ≡ row ∷ map f (filter p rest) =
-      ap (λ (l : List _). map f (filter p l)) next ∙ rw passes refl ∙ ap (λ (y : B). y ∷ map f (filter p rest)) (sym is) in
-      subst (λ (l : List B). Lays all (map f (filter p rest)) old l n) (sym room_is)
-      (subst (λ (k : ℕ). Lays all (map f (filter p rest)) old (set now count row) k) (sym count_is) (lays_one all _ _ old now count row was cut below))
-
-  pub lays_left_out : p x ≡ false → room ≡ now → n ≡ count → Lays all (map f (filter p rest)) old room n
-  lays_left_out fails room_is count_is =
-      let cut : map f (filter p items) ≡ map f (filter p rest) = ap (λ (l : List _). map f (filter p l)) next ∙ rw fails refl in
-      subst (λ (l : List B). Lays all (map f (filter p rest)) old l n) (sym room_is)
-      (subst (λ (k : ℕ). Lays all (map f (filter p rest)) old now k) (sym count_is) (subst (λ (l : List B). Lays all l old now count) cut was))

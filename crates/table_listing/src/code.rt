@@ -11,10 +11,6 @@ use table_replica::Replica;
 pub fn filter_code(replica: &Replica, id: u32) -> Option<&[Insn]>
     ensures { MatchOption result (filter_at replica.now.shown.filters id ≡ None) (λ code. HasCode (filter_at replica.now.shown.filters id) code.now) }
 {
-    for filter in replica.filters() {
-        if filter.id == id {
-            return Some(filter.program.code());
-        }
-    }
-    None
+    let filter = replica.filter(id)?;
+    Some(filter.program.code())
 }

@@ -29,14 +29,12 @@ pub fn list_filters(replica: &Replica, from: u32, room: &mut [FilterRow]) -> usi
     ensures count { result ≡ min (length room.old) (length (filter_rows from replica.now.shown.filters)) }
 {
     let mut count = 0;
-    for filter in replica.filters() {
-        if filter.id >= from {
-            if count == room.len() {
-                return count;
-            }
-            room[count] = row_of(filter);
-            count += 1;
+    for filter in replica.filters_from(from) {
+        if count == room.len() {
+            return count;
         }
+        room[count] = row_of(filter);
+        count += 1;
     }
     count
 }

@@ -1,5 +1,5 @@
 //! The filters of a table on the heap.
-ghost use Rattle.std.specs.Prelude.{◌≡◌, ◌==◌, ◌<◌, ◌++◌, [], ◌∷◌, ℕ, None, Some, IsSome, true, not, filter, map, length, List, IfOk, OnOk, OnErr, MatchOption};
+ghost use Rattle.std.specs.Prelude.{◌≡◌, ◌==◌, ◌<◌, ◌++◌, [], ◌∷◌, ℕ, None, Some, IsSome, true, not, filter, nat_le, map, length, List, IfOk, OnOk, OnErr, MatchOption};
 ghost use Rattle.std.specs.Iterator.{YieldsFirstBy, item_count};
 ghost use Rattle.std.specs.List.{Contains};
 ghost use Rattle.std.specs.Option.{option_map};
@@ -82,6 +82,18 @@ impl BoxedFilters {
         match &self.filters {
             Some(filters) => FilterIter {
                 filters: Some(filters.iter()),
+            },
+            None => FilterIter { filters: None },
+        }
+    }
+
+    /// The filters from an id on, in order of installation.
+    pub(crate) fn iter_from(&self, id: u32) -> FilterIter<'_>
+        ensures { result ≡ filter (λ f. nat_le id f.id) (listed self.now.now) }
+    {
+        match &self.filters {
+            Some(filters) => FilterIter {
+                filters: Some(filters.iter_from(id)),
             },
             None => FilterIter { filters: None },
         }

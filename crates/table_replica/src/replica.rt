@@ -1,7 +1,8 @@
 //! The replica of a core: the table that it shows, and what is planned of the operation that is staged.
-ghost use Rattle.std.specs.Prelude.{◌≡◌, ◌≤◌, [], None, Some, IsSome, is_some, IsOk, IfOk, IfErr, OnOk, OnErr};
-ghost use Rattle.filter_table.specs.Tables.{Accepting, Allowed, after, instructions, instructions_of, made};
-ghost use Rattle.table_replica.specs.Lent.{AreDifferent, held_filters};
+ghost use Rattle.std.specs.Prelude.{◌≡◌, ◌≤◌, [], None, Some, IsSome, is_some, filter, nat_le, IsOk, IfOk, IfErr, OnOk, OnErr};
+ghost use Rattle.std.specs.Option.{option_map};
+ghost use Rattle.filter_table.specs.Tables.{Accepting, Allowed, after, filter_at, instructions, instructions_of, made};
+ghost use Rattle.table_replica.specs.Lent.{AreDifferent, held_filters, shown_filter};
 ghost use Rattle.filter_table.specs.Limits.{default_limits};
 ghost use Rattle.filter_table.specs.Loading.{load_op};
 ghost use Rattle.filter_table.specs.Staging.{CannotStage};
@@ -10,8 +11,8 @@ ghost use Rattle.filter_table.specs.Soundness.{IsSoundTable, IdsGrow};
 ghost use Rattle.filter_table.specs.declared.operation.Op.{Op as GhostOp};
 
 use crate::{
-    Code, Contents, FilterIter, Kept, Limits, Load, Made, NothingStaged, Op, Receivers, StageFault,
-    Workspace,
+    Code, Contents, Filter, FilterIter, Kept, Limits, Load, Made, NothingStaged, Op, Receivers,
+    StageFault, Workspace,
 };
 use endpoint_caps::Caps;
 use std::alloc::{AllocError, Global};
@@ -183,6 +184,20 @@ impl Replica {
         ensures sound { IsSoundTable self.now.shown }
     {
         self.contents.filters().iter()
+    }
+
+    /// Those of them whose ids are at least the given one. The others are not walked.
+    pub fn filters_from(&self, id: u32) -> FilterIter<'_>
+        ensures { result ≡ filter (λ f. nat_le id f.id) self.now.shown.filters }
+    {
+        self.contents.filters().iter_from(id)
+    }
+
+    /// The filter of the shown table with this id.
+    pub fn filter(&self, id: u32) -> Option<Filter<'_>>
+        ensures { option_map shown_filter result ≡ filter_at self.now.shown.filters id }
+    {
+        self.contents.filters().get(id)
     }
 
     /// The endpoints that get a packet by the shown table: those of the listed filters that accept it and whose capability

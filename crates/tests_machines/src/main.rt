@@ -1,17 +1,12 @@
-//! Tests of machines by their public calls: all cores as one value, a core that runs, cores that serve in one thread, joined cores,
-//! cores as threads, and the calls of the headline.
+//! Tests of machines by their public calls: all cores as one value, a core that runs, cores that serve in one thread, and joined cores.
 #![tactic(auto)]
 
 #[cfg(test)]
 mod again;
 #[cfg(test)]
-mod calls;
-#[cfg(test)]
 mod facts;
 #[cfg(test)]
 mod joined;
-#[cfg(test)]
-mod limits;
 #[cfg(test)]
 mod memory;
 #[cfg(test)]
@@ -20,8 +15,6 @@ mod random;
 mod running;
 #[cfg(test)]
 mod scripts;
-#[cfg(test)]
-mod threads;
 #[cfg(test)]
 mod words;
 #[cfg(test)]

@@ -3,12 +3,13 @@
 ghost use Rattle.std.specs.Prelude.{◌≡◌};
 
 use crate::facts::{equal, holds};
-use crate::words::{BYTES, create, install};
+use crate::words::{create, install};
 use core_boot::boot_cores;
 use core_loop::{Core, NotReceived, RingLinks, Turn};
 use filter_table::{Decision, Kept, Veto};
 use std::alloc::Global;
 use std::process::Abort;
+use test_words::BYTES;
 
 const NONE: Kept = Kept {
     endpoint: 0,

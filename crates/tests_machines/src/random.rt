@@ -5,7 +5,7 @@ ghost use Rattle.core_drive.specs.Driving.{IsStep};
 
 use crate::again::is_done_again;
 use crate::facts::{equal_at, holds};
-use crate::words::{is_step, packet};
+use crate::words::is_step;
 use bpf_insn::Insn;
 use core_boot::boot_cores;
 use core_drive::{CoreStep, StepOutcome, Task, drive};
@@ -16,6 +16,7 @@ use pcap_reader::SharedPacket;
 use seq::Seq;
 use std::alloc::{AllocError, Global};
 use std::process::Abort;
+use test_words::packet;
 use world_events::{Answer, Done, Event};
 
 /// Random numbers (Knuth's linear congruential generator for 64 bits).

@@ -4,14 +4,14 @@ ghost use Rattle.std.specs.Prelude.{◌<◌, ◌≤◌, All, IfSome, IsTrue, len
 ghost use Rattle.core_drive.specs.Driving.{IsStep};
 
 use crate::facts::{equal, equal_at};
-use crate::words::{BYTES, create, install, is_step, packet};
+use crate::words::{create, install, is_step};
 use core_boot::boot_cores;
 use core_drive::{CoreStep, StepOutcome, Task, drive};
 use core_loop::{NotReceived, Turn};
 use filter_table::Decision;
 use std::alloc::{AllocError, Global};
 use std::process::Abort;
-use test_words::{CAP, FILTER};
+use test_words::{BYTES, CAP, FILTER, packet};
 
 /// What is asked of a core.
 #[derive(Clone, Copy, PartialEq, Eq, Debug)]

@@ -8,9 +8,6 @@ ghost use Rattle.core_drive.specs.Driving.{IsStep};
 use bpf_insn::Insn;
 use core_drive::{CoreStep, Task};
 use filter_table::{Op, Program};
-use pcap_reader::SharedPacket;
-use rx_queue::Job;
-use seq::Shared;
 use std::alloc::{AllocError, Global};
 
 /// Domain 1 creates endpoint 7.
@@ -44,23 +41,6 @@ pub(crate) fn install(alloc: Global) -> Result<Op, AllocError>
         domain: 1,
         cap: 1,
         program: all(alloc)?,
-    })
-}
-
-/// Packets of five bytes.
-pub(crate) const BYTES: [u8; 5] = [1, 2, 3, 4, 5];
-
-pub(crate) fn packet(alloc: Global, bytes: &[u8]) -> Result<SharedPacket, AllocError> {
-    let bytes = Vec::from_slice(alloc, bytes)?;
-    Ok(SharedPacket::new(Shared::from_vec(alloc, bytes)?, 5))
-}
-
-/// A job of a packet of five bytes, for a table of this version or a later one.
-pub(crate) fn job(alloc: Global, number: u64, floor: u64) -> Result<Job, AllocError> {
-    Ok(Job {
-        number,
-        packet: packet(alloc, &BYTES)?,
-        floor,
     })
 }
 

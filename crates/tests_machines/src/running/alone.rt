@@ -4,7 +4,6 @@ ghost use Rattle.std.specs.Prelude.{◌≤◌, vec_len};
 
 use super::{core_of, create, creation, has_turned, place};
 use crate::facts::{equal, equal_at, holds};
-use crate::words::job;
 use core_join::{Recorded, RecordedTurn};
 use core_loop::{Cause, Core, ListLinks};
 use monitor_messages::{Message, encode};
@@ -12,6 +11,7 @@ use rx_queue::{Port, queue};
 use std::alloc::Global;
 use std::process::Abort;
 use table_replica::Limits;
+use test_words::job;
 
 /// A core of this many cores that is to create an endpoint, over links of capacity 1.
 fn creator(rt: &impl Abort, alloc: Global, cores: u16) -> (Recorded<ListLinks>, Port)

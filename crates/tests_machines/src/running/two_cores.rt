@@ -4,7 +4,6 @@ ghost use Rattle.std.specs.Prelude.{◌≤◌, vec_len};
 
 use super::{carry, core_of, creation, has_turned, place};
 use crate::facts::{equal, holds};
-use crate::words::job;
 use core_join::{Recorded, RecordedTurn};
 use core_loop::{Core, ListLinks, Stamped};
 use monitor_messages::{Message, Vote, encode};
@@ -13,7 +12,7 @@ use std::alloc::{AllocError, Global};
 use std::collections::VecDeque;
 use std::process::Abort;
 use table_replica::{Limits, Op};
-use test_words::{ALL, CAP, EventWords, FILTER, is_for_memory, program, tells};
+use test_words::{ALL, CAP, EventWords, FILTER, is_for_memory, job, program, tells};
 
 /// Requests to create endpoint 7 and to install a filter that accepts every packet.
 fn installation(rt: &impl Abort, alloc: Global) -> VecDeque<Op> {

@@ -5,7 +5,7 @@ use Rattle.filter_table.specs.declared.delivery.Kept.{Kept}
 use Rattle.installed_filters.specs.Counts.{AreReachKeys}
 use Rattle.installed_filters.specs.Keeping.{AreKept, AreNoted, GetsBy}
 use Rattle.installed_filters.proofs.Hits.{noted_none, noted_gets, keys_within}
-use Rattle.installed_filters.proofs.reaches.keep_many.Goals as goal
+use Rattle.installed_filters.proofs.reaches.keep_most.Goals as goal
 
 pub note-requires-clause-inside : goal.note-requires-clause-inside
 note-requires-clause-inside c = λ i hit at.

@@ -6,7 +6,6 @@ ghost use Rattle.core_join.specs.Machines.{IsMachine};
 ghost use Rattle.core_boot.specs.Booting.{AreGivable};
 
 use crate::facts::{equal, holds};
-use crate::words::job;
 use core_join::{Recorded, conclude, merge};
 use core_loop::RingLinks;
 use core_threads::{
@@ -21,7 +20,7 @@ use std::sync::atomic::{AtomicBool, AtomicU64, Ordering};
 use std::thread::Threads;
 use std::time::Clock;
 use table_replica::{Limits, Op};
-use test_words::{ALL, EventWords, is_for_memory, program, tells};
+use test_words::{ALL, EventWords, is_for_memory, job, program, tells};
 use world_model::{Done, Event};
 
 /// A limit that is never met.
