@@ -9,5 +9,5 @@ set -e
 here=$(cd "$(dirname "$0")" && pwd)
 work=${1:-$(mktemp -d)}
 . "$here/crates.sh"
-build_program "$work" loop ': seq bpf_insn pcap_reader rx_queue table_replica ump_ring core_links world_core core_loop core_boot'
+build_program "$work" loop ': seq bpf_insn pcap_reader rx_queue table_replica ump_ring core_links world_core core_loop core_machine'
 "$work/crates/loop_bench/out/loop_bench" | python3 "$here/loop.py"

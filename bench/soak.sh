@@ -13,7 +13,7 @@ set -e
 here=$(cd "$(dirname "$0")" && pwd)
 work=${1:-$(mktemp -d)}
 . "$here/crates.sh"
-build_program "$work" soak ' may_wait=3: seq bpf_insn pcap_reader endpoint_caps filter_table monitor_messages rx_queue table_replica world_events world_model world_core core_loop core_join core_boot core_drive core_threads'
+build_program "$work" soak ' may_wait=3: seq bpf_insn pcap_reader endpoint_caps filter_table monitor_messages rx_queue table_replica world_events world_model world_core core_loop core_machine core_threads'
 "$work/crates/soak_bench/out/soak_bench" "${2:-10000}" "${3:-1}" | tee "$work/soak.txt"
 grep -q ' 0 runs went wrong$' "$work/soak.txt"
 "$here/repeat.sh" 1000

@@ -12,6 +12,6 @@ work=${1:-$(mktemp -d)}
 rounds=${2:-21}
 if [ $# -gt 2 ]; then shift 2; else set --; fi
 . "$here/crates.sh"
-build_program "$work" threads ' may_wait=3: seq bpf_insn pcap_reader rx_queue table_replica core_loop core_boot core_threads'
+build_program "$work" threads ' may_wait=3: seq bpf_insn pcap_reader rx_queue table_replica core_loop core_machine core_threads'
 clang -O2 -o "$work/threads_peer" "$here/threads_peer.c" -lpthread
 python3 "$here/threads.py" "$work/crates/threads_bench/out/threads_bench" "$work/threads_peer" "$rounds" "$@"

@@ -7,7 +7,7 @@ set -e
 here=$(cd "$(dirname "$0")" && pwd)
 work=${1:-$(mktemp -d)}
 . "$here/crates.sh"
-build_program "$work" world ': bpf_insn table_replica world_channels world_core'
+build_program "$work" world ': bpf_insn table_replica world_core'
 for round in 1 2 3 4 5 6 7 8 9; do
     "$work/crates/world_bench/out/world_bench"
 done | sort -t: -k1,1 -s | awk -F': ' '

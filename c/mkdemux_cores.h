@@ -251,7 +251,7 @@ uint32_t mkdemux_turn(mkdemux_core *core, mkdemux_turned *turned);
  * REQUIRED: the cores were opened by one call of mkdemux_boot or mkdemux_boot_limits, since two cores of different
  * machines that have equal counts can't be told apart. No other call on any of them runs meanwhile.
  * Proved: all of this, and that it ends after at most one round more than the work ahead
- * (crates/core_settle/specs/Ahead.antt); in a round each core takes one turn. With OK the n-th decision of each core is
+ * (crates/core_machine/specs/Ahead.antt); in a round each core takes one turn. With OK the n-th decision of each core is
  * on its n-th request. Decisions aren't reported; the versions and mkdemux_unanswered show them. Takes memory. */
 uint32_t mkdemux_settle(mkdemux_core *cores, size_t count);
 

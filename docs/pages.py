@@ -1,6 +1,6 @@
 #!/usr/bin/env python3
 """Looks at the pages: each link leads to a file, and to a heading of it; each edit that docs/wrong-bodies.md names is there; each crate of
-crates.txt is on README and on the map; README has at most 10,000 bytes; and lines of text have at most 120 characters.
+crates.txt is on README and on the map; README has at most 12,000 bytes; and lines of text have at most 120 characters.
 
     docs/pages.py   says what is wrong, page by page; the last line is `N passed, M failed`, one for each page
 """
@@ -10,7 +10,7 @@ import sys
 
 TOP = pathlib.Path(__file__).resolve().parent.parent
 PAGES = sorted(page for folder in (".", "*", "examples/*") for page in TOP.glob(f"{folder}/*.md"))
-MOST_BYTES = 10_000
+MOST_BYTES = 12_000
 MOST_COLUMNS = 120
 LINK = re.compile(r"\[[^\]]+\]\(([^)\s]+)\)")
 NAMED = re.compile(r"`(?:(edits)/)?(?:([a-z0-9_]+)/)?([a-z0-9_]+)`")

@@ -1,6 +1,6 @@
 -- What a core's thread gives back may go to another thread.
 use denote.Param.Send.{IsSend, sendable}
-use Rattle.core_join.proofs.Crossing.{with_list_send}
+use Rattle.core_machine.proofs.Crossing.{with_list_send}
 use Rattle.core_threads.proofs.halt.Halt.TheSendSync as halt
 use Rattle.core_threads.specs.contracts.threads.Ran as ran
 

@@ -11,7 +11,7 @@ use Rattle.rx_queue.specs.Queue.{jobs_taken}
 use Rattle.core_threads.specs.declared.feeding.Outlet.{Outlet}
 use Rattle.core_threads.specs.declared.threads.Ran.{Ran}
 use Rattle.core_threads.specs.Feeding.{jobs_through}
-use Rattle.core_boot.specs.Lanes.{items_for}
+use Rattle.core_machine.specs.Lanes.{items_for}
 use Rattle.core_threads.specs.Leaving.{tagged, SameButTaken, Leaves, IsFedBy, AreFedBy, SameRan, AreSameRan, AllLeft}
 
 pub items_for-append : {T : Type 0} (core : ℕ) (xs ys : List (ℕ × T)) → items_for core (xs ++ ys) ≡ items_for core xs ++ items_for core ys

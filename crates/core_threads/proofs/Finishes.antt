@@ -7,11 +7,11 @@ use Rattle.rx_queue.specs.declared.intake.Intake.{Intake}
 use Rattle.rx_queue.specs.Queue.{SameIntake}
 use Rattle.core_links.specs.RingSlots.{ring_view}
 use Rattle.filter_table.specs.Limits.{TableLimits}
-use Rattle.core_join.specs.Machines.{RingCore, IsMachine}
-use Rattle.core_join.specs.Looking.{AreLookedAt}
-use Rattle.core_join.specs.Conclusions.{AreRunning}
-use Rattle.core_join.proofs.Machines.{machine_ran}
-use Rattle.core_join.proofs.Along.{same_itself}
+use Rattle.core_machine.specs.Machines.{RingCore, IsMachine}
+use Rattle.core_machine.specs.Looking.{AreLookedAt}
+use Rattle.core_machine.specs.Conclusions.{AreRunning}
+use Rattle.core_machine.proofs.Machines.{machine_ran}
+use Rattle.core_machine.proofs.Along.{same_itself}
 use Rattle.core_loop.specs.Cores.{SameCore}
 use Rattle.core_links.specs.RingSlots.{SameLinks}
 use Rattle.core_threads.specs.declared.feeding.Outlet.{Outlet}
@@ -19,7 +19,7 @@ use Rattle.core_threads.specs.declared.halt.Halt.{Halt}
 use Rattle.core_threads.specs.declared.halt.Halt.TheVariants as halt
 use Rattle.core_threads.specs.declared.threads.Ran.{Ran}
 use Rattle.core_threads.specs.Ending.{IsDone, HaltsFor, HaltsRightly, NoneHalts, NamesFor, NamesLeast, HaltEach}
-use Rattle.core_boot.specs.Lanes.{items_for}
+use Rattle.core_machine.specs.Lanes.{items_for}
 use Rattle.core_threads.specs.Leaving.{SameRan, SameButTaken, AreSameRan, AllLeft}
 use Rattle.core_threads.specs.Searching.{AreInPlace, HaltedAt, NoneHalted, UnfinishedAt, IsHalt, IsWhole}
 use Rattle.core_threads.specs.Finishing.{CanFinish, Finishes}

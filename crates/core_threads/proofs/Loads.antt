@@ -10,7 +10,7 @@ use Rattle.rx_queue.specs.declared.job.Job.{Job}
 use Rattle.rx_queue.specs.declared.port.Port.{Port}
 use Rattle.core_threads.specs.declared.feeding.Outlet.{Outlet}
 use Rattle.core_threads.specs.Feeding.{full_outlet, jobs_unput}
-use Rattle.core_boot.specs.Lanes.{AreLanes}
+use Rattle.core_machine.specs.Lanes.{AreLanes}
 use Rattle.core_threads.specs.Loading.{AreLoaded}
 
 get_zip : {A B : Type 0} (xs : List A) (ys : List B) (i : ℕ) (z : A × B) → slice_get (zip xs ys) i ≡ Some z → (slice_get xs i ≡ Some z.0) × (slice_get ys i ≡ Some z.1)

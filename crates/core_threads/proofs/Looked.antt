@@ -5,17 +5,17 @@ use Rattle.std.proofs.lemmas.List.{map-id}
 use Rattle.std.proofs.lemmas.Option.{slice_get_within}
 use Rattle.filter_table.proofs.Positions.{get_at}
 use Rattle.rx_queue.specs.declared.job.Job.{Job}
-use Rattle.core_boot.specs.Lanes.{items_for}
+use Rattle.core_machine.specs.Lanes.{items_for}
 use Rattle.core_links.specs.Views.{LinkView}
 use Rattle.core_links.specs.RingSlots.{ring_view}
 use Rattle.core_loop.specs.Beginning.{HasNothingUnderWay, CanBeginNext}
 use Rattle.core_loop.specs.Choosing.{NoMessageNow}
 use Rattle.core_loop.specs.Cores.{begun, receipts}
 use Rattle.core_loop.specs.Turning.{IsSpent, LacksMemory}
-use Rattle.core_join.specs.Machines.{RingCore}
-use Rattle.core_join.specs.Looking.{IsLookedAt, AreLookedAt}
-use Rattle.core_join.specs.Conclusions.{AreRunning, Conclude}
-use Rattle.core_join.proofs.Along.{same_along, looked_same, views_same}
+use Rattle.core_machine.specs.Machines.{RingCore}
+use Rattle.core_machine.specs.Looking.{IsLookedAt, AreLookedAt}
+use Rattle.core_machine.specs.Conclusions.{AreRunning, Conclude}
+use Rattle.core_machine.proofs.Along.{same_along, looked_same, views_same}
 use Rattle.core_threads.specs.declared.halt.Halt.{Halt}
 use Rattle.core_threads.specs.declared.halt.Halt.TheVariants as halt
 use Rattle.core_threads.specs.Reasons.{IsSpentNow, LacksMemoryNow, RestsNow}

@@ -3,9 +3,9 @@ use Rattle.std.proofs.Common.{◌≡◌, ℕ, List, [], ◌∷◌, ◌++◌, Som
 use Rattle.std.proofs.lemmas.Option.{slice_get_within}
 use Rattle.filter_table.proofs.Positions.{get_at}
 use Rattle.rx_queue.specs.declared.port.Port.{Port}
-use Rattle.core_join.specs.Machines.{RingCore}
-use Rattle.core_boot.specs.Booted.{AreBooted}
-use Rattle.core_boot.specs.Booting.{IsMachineOf}
+use Rattle.core_machine.specs.Machines.{RingCore}
+use Rattle.core_machine.specs.Booted.{AreBooted}
+use Rattle.core_machine.specs.Booting.{IsMachineOf}
 use Rattle.core_threads.specs.Booted.{IsBootedMachine}
 use Rattle.filter_table.specs.Limits.{TableLimits}
 use Rattle.core_threads.specs.Recording.{HaveNoHistories}

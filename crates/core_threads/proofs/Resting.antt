@@ -6,19 +6,19 @@ use Rattle.std.proofs.lemmas.List.{map-id}
 use Rattle.std.proofs.lemmas.Option.{slice_get_within, slice_get-get_or}
 use Rattle.filter_table.proofs.Positions.{get_at}
 use Rattle.rx_queue.specs.declared.job.Job.{Job}
-use Rattle.core_boot.specs.Lanes.{items_for}
+use Rattle.core_machine.specs.Lanes.{items_for}
 use Rattle.core_loop.specs.Keeping.{replica_of}
-use Rattle.core_join.specs.Machines.{RingCore, IsMachine, AreSameCores}
-use Rattle.core_join.specs.Conclusions.{Conclude, version_of_core}
-use Rattle.core_join.proofs.Along.{same_itself, same_along}
+use Rattle.core_machine.specs.Machines.{RingCore, IsMachine, AreSameCores}
+use Rattle.core_machine.specs.Conclusions.{Conclude, version_of_core}
+use Rattle.core_machine.proofs.Along.{same_itself, same_along}
 use Rattle.core_links.specs.RingSlots.{SameLinks}
 use Rattle.core_loop.specs.Cores.{SameCore}
-use Rattle.core_join.proofs.Machines.{machine_ran}
-use Rattle.core_settle.specs.declared.halt.Halt.{Halt as Why}
-use Rattle.core_settle.specs.declared.halt.Halt.TheVariants as reason
-use Rattle.core_settle.specs.declared.settling.Settled.{Settled}
-use Rattle.core_settle.specs.declared.settling.Settled.TheVariants.{AtRest, Spent, NoMemory, NoRoom}
-use Rattle.core_settle.specs.Rounds.{Keeps, AllKeep, AreAtRest, CoreRests, HasAllDecided, HaltedAt, EndsFor}
+use Rattle.core_machine.proofs.Machines.{machine_ran}
+use Rattle.core_machine.specs.declared.halt.Halt.{Halt as Why}
+use Rattle.core_machine.specs.declared.halt.Halt.TheVariants as reason
+use Rattle.core_machine.specs.declared.settling.Settled.{Settled}
+use Rattle.core_machine.specs.declared.settling.Settled.TheVariants.{AtRest, Spent, NoMemory, NoRoom}
+use Rattle.core_machine.specs.Rounds.{Keeps, AllKeep, AreAtRest, CoreRests, HasAllDecided, HaltedAt, EndsFor}
 use Rattle.core_threads.specs.declared.halt.Halt.{Halt}
 use Rattle.core_threads.specs.declared.halt.Halt.TheVariants as halt
 use Rattle.core_threads.specs.Ending.{IsAtEnd, AreAllDone, HaltsFor, HaltsRightly, CoreEnds, EndsRightly}

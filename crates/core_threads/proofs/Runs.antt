@@ -10,19 +10,19 @@ use Rattle.core_links.specs.RingSlots.{SameLinks}
 use Rattle.core_loop.specs.Keeping.{replica_of}
 use Rattle.core_loop.specs.Cores.{SameCore, begun, receipts}
 use Rattle.filter_table.specs.Limits.{TableLimits}
-use Rattle.core_join.specs.Machines.{RingCore, IsMachine}
-use Rattle.core_join.proofs.Machines.{machine_ran}
+use Rattle.core_machine.specs.Machines.{RingCore, IsMachine}
+use Rattle.core_machine.proofs.Machines.{machine_ran}
 use Rattle.core_threads.specs.declared.feeding.Outlet.{Outlet}
 use Rattle.core_threads.specs.declared.halt.Halt.{Halt}
 use Rattle.core_threads.specs.declared.threads.Ran.{Ran}
-use Rattle.core_boot.specs.Booted.{IsBooted, AreBooted}
+use Rattle.core_machine.specs.Booted.{IsBooted, AreBooted}
 use Rattle.core_threads.specs.Booted.{IsBootedMachine}
 use Rattle.core_threads.proofs.Looked.{ends_along}
 use Rattle.core_threads.specs.Ending.{CoreEnds, EndsRightly}
 use Rattle.core_threads.specs.Feeding.{jobs_unput, jobs_through, SameOutlet}
 use Rattle.core_threads.specs.Finishing.{CanFinish, Finishes}
 use Rattle.core_threads.specs.Joining.{HaveRan, SameOutlets}
-use Rattle.core_boot.specs.Lanes.{items_for}
+use Rattle.core_machine.specs.Lanes.{items_for}
 use Rattle.core_threads.specs.Leaving.{IsFedBy}
 use Rattle.core_threads.specs.Loading.{IsLoaded, AreLoaded}
 use Rattle.core_threads.specs.Runs.{ThreadRan}

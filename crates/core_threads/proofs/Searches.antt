@@ -6,7 +6,7 @@ use Rattle.rx_queue.specs.declared.job.Job.{Job}
 use Rattle.core_threads.specs.declared.halt.Halt.{Halt}
 use Rattle.core_threads.specs.declared.threads.Ran.{Ran}
 use Rattle.core_threads.specs.Ending.{IsAtEnd, IsDone}
-use Rattle.core_boot.specs.Lanes.{items_for}
+use Rattle.core_machine.specs.Lanes.{items_for}
 use Rattle.core_threads.specs.Searching.{AreInPlace, HaltedAt, NoneHaltedBelow, NoneHalted, AreDoneBelow, AreDone, UnfinishedAt}
 use Rattle.core_threads.proofs.Emptying.{below_or}
 

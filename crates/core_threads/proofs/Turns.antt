@@ -8,8 +8,8 @@ use Rattle.core_loop.specs.Beginning.{CanBeginNext}
 use Rattle.core_loop.specs.Choosing.{NoMessageNow}
 use Rattle.core_loop.specs.Cores.{CoreState, SameCore, NothingDone}
 use Rattle.core_loop.specs.Turning.{IsSpent, LacksMemory}
-use Rattle.core_join.specs.declared.recorded.RecordedTurn.{RecordedTurn}
-use Rattle.core_join.specs.declared.recorded.RecordedTurn.TheVariants.{Did, Idle, Stopped, Spent, NoMemory, NoRoom}
+use Rattle.core_machine.specs.declared.recorded.RecordedTurn.{RecordedTurn}
+use Rattle.core_machine.specs.declared.recorded.RecordedTurn.TheVariants.{Did, Idle, Stopped, Spent, NoMemory, NoRoom}
 use Rattle.core_threads.specs.Reasons.{RestsNow}
 use Rattle.core_threads.specs.Runs.{AfterTurn}
 

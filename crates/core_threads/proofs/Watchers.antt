@@ -11,8 +11,8 @@ use Rattle.world_histories.specs.declared.history.Stamped.{Stamped}
 use Rattle.core_links.specs.Views.{LinkView}
 use Rattle.core_loop.specs.Receipts.{receives}
 use Rattle.core_loop.specs.Cores.{CoreState, NothingDone, DidOne}
-use Rattle.core_join.specs.declared.recorded.RecordedTurn.{RecordedTurn}
-use Rattle.core_join.specs.declared.recorded.RecordedTurn.TheVariants.{Did, Idle, Stopped, Spent, NoMemory, NoRoom}
+use Rattle.core_machine.specs.declared.recorded.RecordedTurn.{RecordedTurn}
+use Rattle.core_machine.specs.declared.recorded.RecordedTurn.TheVariants.{Did, Idle, Stopped, Spent, NoMemory, NoRoom}
 use Rattle.core_threads.specs.declared.watcher.Question.{Question}
 use Rattle.core_threads.specs.Watchers.{receipt_of, receipts_of, AsksOfFront, TakesAsked}
 

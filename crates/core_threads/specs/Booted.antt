@@ -1,9 +1,9 @@
 -- A machine that was booted and has not run.
 use Rattle.std.specs.Prelude.{ℕ, List}
 use Rattle.rx_queue.specs.declared.port.Port.{Port}
-use Rattle.core_join.specs.Machines.{RingCore, IsMachine}
+use Rattle.core_machine.specs.Machines.{RingCore, IsMachine}
 use Rattle.filter_table.specs.Limits.{TableLimits}
-use Rattle.core_boot.specs.Booted.{AreBooted}
+use Rattle.core_machine.specs.Booted.{AreBooted}
 
 -- its cores, and the port of each one's queue
 pub record MachineState : Type 0 where

@@ -5,14 +5,14 @@ use Rattle.core_links.specs.RingSlots.{SameLinks, ring_view}
 use Rattle.core_loop.specs.Beginning.{HasNothingUnderWay}
 use Rattle.core_loop.specs.Cores.{SameCore, begun, receipts}
 use Rattle.core_loop.specs.Keeping.{replica_of}
-use Rattle.core_join.specs.Machines.{RingCore}
-use Rattle.core_join.specs.Conclusions.{AreRunning}
-use Rattle.core_settle.specs.Rounds.{HasAllDecided}
+use Rattle.core_machine.specs.Machines.{RingCore}
+use Rattle.core_machine.specs.Conclusions.{AreRunning}
+use Rattle.core_machine.specs.Rounds.{HasAllDecided}
 use Rattle.core_threads.specs.Reasons.{IsSpentNow, LacksMemoryNow, RestsNow}
 use Rattle.core_threads.specs.Runs.{StandsSo}
 use Rattle.core_threads.specs.declared.halt.Halt.{Halt}
 use Rattle.core_threads.specs.declared.halt.Halt.TheVariants as halt
-use Rattle.core_boot.specs.Lanes.{items_for}
+use Rattle.core_machine.specs.Lanes.{items_for}
 
 -- a core, of whose jobs these are left, has nothing to do: each request is begun, nothing is under way, and the first job waits for a
 -- later version

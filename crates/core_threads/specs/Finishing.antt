@@ -4,14 +4,14 @@ use Rattle.std.specs.Prelude.{◌≡◌, ◌<◌, ◌++◌, ℕ, All, List, map,
 use Rattle.rx_queue.specs.declared.job.Job.{Job}
 use Rattle.rx_queue.specs.Queue.{jobs_taken}
 use Rattle.core_links.specs.RingSlots.{ring_view}
-use Rattle.core_join.specs.Machines.{RingCore, IsMachine}
-use Rattle.core_join.specs.Conclusions.{AreRunning}
+use Rattle.core_machine.specs.Machines.{RingCore, IsMachine}
+use Rattle.core_machine.specs.Conclusions.{AreRunning}
 use Rattle.core_threads.specs.declared.feeding.Outlet.{Outlet}
 use Rattle.core_threads.specs.declared.halt.Halt.{Halt}
 use Rattle.core_threads.specs.declared.threads.Ran.{Ran}
 use Rattle.core_threads.specs.Ending.{HaltsRightly}
 use Rattle.core_threads.specs.Feeding.{jobs_through}
-use Rattle.core_boot.specs.Lanes.{items_for}
+use Rattle.core_machine.specs.Lanes.{items_for}
 use Rattle.core_threads.specs.Leaving.{AreFedBy, IsLeft}
 use Rattle.filter_table.specs.Limits.{TableLimits}
 use Rattle.core_threads.specs.Runs.{StandsSo}

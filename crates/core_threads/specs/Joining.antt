@@ -2,7 +2,7 @@
 -- No public clause cites these.
 use Rattle.std.specs.Prelude.{List}
 use Rattle.std.specs.List.{AllZip}
-use Rattle.core_join.specs.Machines.{RingCore}
+use Rattle.core_machine.specs.Machines.{RingCore}
 use Rattle.core_threads.specs.declared.feeding.Outlet.{Outlet}
 use Rattle.core_threads.specs.declared.threads.Ran.{Ran}
 use Rattle.core_threads.specs.Feeding.{SameOutlet}

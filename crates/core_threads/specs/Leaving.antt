@@ -3,12 +3,12 @@
 use Rattle.std.specs.Prelude.{◌≡◌, ◌<◌, ◌++◌, ℕ, All, List, map, length, Some, slice_get}
 use Rattle.rx_queue.specs.declared.job.Job.{Job}
 use Rattle.rx_queue.specs.Queue.{AreEnds, SameIntake, jobs_taken}
-use Rattle.core_join.specs.Machines.{RingCore}
-use Rattle.core_join.specs.Looking.{IsLookedAt}
+use Rattle.core_machine.specs.Machines.{RingCore}
+use Rattle.core_machine.specs.Looking.{IsLookedAt}
 use Rattle.core_threads.specs.declared.feeding.Outlet.{Outlet}
 use Rattle.core_threads.specs.declared.threads.Ran.{Ran}
 use Rattle.core_threads.specs.Feeding.{jobs_through}
-use Rattle.core_boot.specs.Lanes.{items_for}
+use Rattle.core_machine.specs.Lanes.{items_for}
 
 -- items of one core
 abbrev pub tagged : {T : Type 0} → ℕ → List T → List (ℕ × T)

@@ -5,7 +5,7 @@ use Rattle.rx_queue.specs.declared.job.Job.{Job}
 use Rattle.rx_queue.specs.declared.port.Port.{Port}
 use Rattle.core_threads.specs.declared.feeding.Outlet.{Outlet}
 use Rattle.core_threads.specs.Feeding.{jobs_unput}
-use Rattle.core_boot.specs.Lanes.{items_for}
+use Rattle.core_machine.specs.Lanes.{items_for}
 
 -- the outlet in this place has this port, and all jobs of its core
 pub record IsLoaded (place : ℕ) (port : Port) (jobs : List (ℕ × Job)) (outlet : Outlet) : Type 0 where

@@ -1,7 +1,7 @@
 -- Cores before their lists.
 -- No public clause cites these.
 use Rattle.std.specs.Prelude.{◌≡◌, ℕ, List, [], Some, slice_get}
-use Rattle.core_join.specs.Machines.{RingCore}
+use Rattle.core_machine.specs.Machines.{RingCore}
 
 -- none of these cores has done anything
 abbrev pub HaveNoHistories : List RingCore → Type 0

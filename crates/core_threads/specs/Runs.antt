@@ -7,9 +7,9 @@ use Rattle.core_links.specs.Views.{LinkView}
 use Rattle.core_loop.specs.Beginning.{HasNothingUnderWay}
 use Rattle.core_loop.specs.Keeping.{replica_of}
 use Rattle.core_loop.specs.Cores.{CoreState, SameCore, begun, receipts}
-use Rattle.core_join.specs.declared.recorded.RecordedTurn.{RecordedTurn}
-use Rattle.core_join.specs.declared.recorded.RecordedTurn.TheVariants.{Idle, Stopped, Spent, NoMemory}
-use Rattle.core_join.specs.Machines.{RingCore}
+use Rattle.core_machine.specs.declared.recorded.RecordedTurn.{RecordedTurn}
+use Rattle.core_machine.specs.declared.recorded.RecordedTurn.TheVariants.{Idle, Stopped, Spent, NoMemory}
+use Rattle.core_machine.specs.Machines.{RingCore}
 use Rattle.core_threads.specs.declared.halt.Halt.{Halt}
 use Rattle.core_threads.specs.declared.halt.Halt.TheVariants as halt
 use Rattle.core_threads.specs.Reasons.{IsSpentNow, LacksMemoryNow, RestsNow}

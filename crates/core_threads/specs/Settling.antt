@@ -3,13 +3,13 @@ use Rattle.std.specs.Prelude.{◌≡◌, ◌≤◌, ◌∷◌, ℕ, List, Option
 use Rattle.filter_table.specs.Limits.{TableLimits}
 use Rattle.filter_table.specs.declared.operation.Op.{Op}
 use Rattle.rx_queue.specs.declared.job.Job.{Job}
-use Rattle.core_boot.specs.Booting.{IsMachineOf, HaveRequests}
-use Rattle.core_boot.specs.Lanes.{items_for}
-use Rattle.core_join.specs.Machines.{RingCore, AreSameCores}
-use Rattle.core_join.specs.Conclusions.{AreRunning, version_of_core}
-use Rattle.core_settle.specs.declared.settling.Settled.{Settled}
-use Rattle.core_settle.specs.declared.settling.Settled.TheVariants.{AtRest, Spent, NoMemory, NoRoom}
-use Rattle.core_settle.specs.Rounds.{AllKeep, EndsFor}
+use Rattle.core_machine.specs.Booting.{IsMachineOf, HaveRequests}
+use Rattle.core_machine.specs.Lanes.{items_for}
+use Rattle.core_machine.specs.Machines.{RingCore, AreSameCores}
+use Rattle.core_machine.specs.Conclusions.{AreRunning, version_of_core}
+use Rattle.core_machine.specs.declared.settling.Settled.{Settled}
+use Rattle.core_machine.specs.declared.settling.Settled.TheVariants.{AtRest, Spent, NoMemory, NoRoom}
+use Rattle.core_machine.specs.Rounds.{AllKeep, EndsFor}
 use Rattle.core_threads.specs.declared.halt.Halt.{Halt}
 use Rattle.core_threads.specs.declared.halt.Halt.TheVariants as halt
 use Rattle.core_threads.specs.Ending.{AreAllDone, EndsRightly}

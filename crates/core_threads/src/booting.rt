@@ -3,14 +3,13 @@
 ghost use Rattle.std.specs.Prelude.{◌≡◌, ◌<◌, ◌⊎◌, ◌↔◌, All, length, Err, IfOk};
 ghost use Rattle.filter_table.specs.Limits.{default_limits};
 ghost use Rattle.world_events.specs.declared.boot.BootFault.TheVariants.{CoreCount};
-ghost use Rattle.core_boot.specs.Booted.{AreBooted};
-ghost use Rattle.core_boot.specs.Booting.{HaveRequests, AreGivable, IsMachineOf};
+ghost use Rattle.core_machine.specs.Booted.{AreBooted};
+ghost use Rattle.core_machine.specs.Booting.{HaveRequests, AreGivable, IsMachineOf};
 ghost use Rattle.core_threads.specs.Recording.{HaveNoHistories};
 
 use crate::machine::Machine;
-use core_boot::{BootFault, boot_with_ports};
-use core_join::Recorded;
 use core_loop::{Core, RingLinks};
+use core_machine::{BootFault, Recorded, boot_with_ports};
 use filter_table::{Limits, Op};
 use monitor_2pc::DEFAULT_MOST_CORES;
 use std::alloc::{AllocError, Global};

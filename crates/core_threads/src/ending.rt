@@ -2,14 +2,14 @@
 
 ghost use Rattle.std.specs.Prelude.{◌≡◌, ◌↔◌, [], map, IsTrue, IfOk, MatchOption};
 ghost use Rattle.core_threads.specs.Ending.{IsAtEnd};
-ghost use Rattle.core_boot.specs.Lanes.{items_for};
-ghost use Rattle.core_settle.specs.Rounds.{HasAllDecided};
+ghost use Rattle.core_machine.specs.Lanes.{items_for};
+ghost use Rattle.core_machine.specs.Rounds.{HasAllDecided};
 ghost use Rattle.core_threads.specs.Searching.{AreInPlace, HaltedAt, NoneHalted, IsFirstFloor, AreDone, UnfinishedAt, IsHalt, IsWhole};
 
 use crate::halt::Halt;
 use crate::threads::Ran;
-use core_join::Recorded;
 use core_loop::{Core, RingLinks};
+use core_machine::Recorded;
 use rx_queue::Job;
 use std::alloc::{AllocError, Global};
 

@@ -7,8 +7,8 @@ ghost use Rattle.core_threads.specs.Leaving.{Leaves, SameButTaken, AreFedBy, Are
 
 use crate::feeding::Outlet;
 use crate::threads::Ran;
-use core_join::Recorded;
 use core_loop::RingLinks;
+use core_machine::Recorded;
 use rx_queue::{Job, Port};
 use std::alloc::{AllocError, Global};
 use std::collections::VecDeque;

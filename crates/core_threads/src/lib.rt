@@ -15,7 +15,7 @@ mod turning;
 mod watcher;
 
 pub use booting::{boot, boot_with_limits};
-pub use core_boot::BootFault;
+pub use core_machine::BootFault;
 pub use halt::{Halt, RunFault};
 pub use machine::{Ended, Machine, run_machine};
 pub use settling::{Rested, run_to_rest};

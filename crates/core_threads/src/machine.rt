@@ -2,7 +2,7 @@
 
 ghost use Rattle.std.specs.Prelude.{◌≡◌, ◌<◌, ℕ, All, List, length, IfOk};
 ghost use Rattle.filter_table.specs.Limits.{TableLimits};
-ghost use Rattle.core_join.specs.Machines.{IsMachine};
+ghost use Rattle.core_machine.specs.Machines.{IsMachine};
 ghost use Rattle.core_threads.specs.Booted.{IsBootedMachine};
 ghost use Rattle.core_threads.specs.Ending.{EndsRightly, HaltEach};
 ghost use Rattle.core_threads.specs.Finishing.{CanFinish, Finishes};
@@ -16,10 +16,8 @@ use crate::leaving::leave_all;
 use crate::threads::{Joined, run_in_threads};
 use crate::turning::Bounds;
 use crate::watcher::Watcher;
-use core_boot::by_core;
-use core_join::Recorded;
 use core_loop::RingLinks;
-use core_settle::look_at_machine;
+use core_machine::{Recorded, by_core, look_at_machine};
 use rx_queue::{Job, Port};
 use std::alloc::{AllocError, Global};
 use std::marker::Model;

@@ -2,7 +2,7 @@
 
 ghost use Rattle.std.specs.Prelude.{◌≡◌, ◌↔◌, ◌<◌, ℕ, All, List, IfNone, IfSome, IfOk, IsTrue, length};
 ghost use Rattle.filter_table.specs.Limits.{TableLimits};
-ghost use Rattle.core_join.specs.Machines.{IsMachine};
+ghost use Rattle.core_machine.specs.Machines.{IsMachine};
 ghost use Rattle.core_threads.specs.Ending.{AreAllDone};
 ghost use Rattle.core_threads.specs.Searching.{EachIsAtEnd};
 ghost use Rattle.core_threads.specs.Settling.{HaveSettled, IsUndone, SettlesWhere, RunsToRest};
@@ -11,9 +11,8 @@ use crate::ending::is_at_end;
 use crate::halt::{Halt, RunFault};
 use crate::machine::{Ended, Machine, run_machine};
 use crate::watcher::Watcher;
-use core_join::Recorded;
 use core_loop::RingLinks;
-use core_settle::{Settled, settle};
+use core_machine::{Recorded, Settled, settle};
 use rx_queue::Job;
 use std::alloc::Global;
 use std::sync::Wait;

@@ -2,7 +2,7 @@
 
 ghost use Rattle.std.specs.Prelude.{◌≡◌, ◌∷◌, [], ◌++◌, List, IfOk};
 ghost use Rattle.std.specs.Thread.{IsSync};
-ghost use Rattle.core_join.specs.Machines.{RingCore};
+ghost use Rattle.core_machine.specs.Machines.{RingCore};
 ghost use Rattle.core_threads.specs.declared.feeding.Outlet.{Outlet as GhostOutlet};
 ghost use Rattle.core_threads.specs.Joining.{HaveRan, SameOutlets};
 ghost use Rattle.core_threads.specs.Runs.{ThreadRan};
@@ -12,8 +12,8 @@ use crate::flags::Flags;
 use crate::halt::{Halt, RunFault};
 use crate::turning::{Bounds, run_core};
 use crate::watcher::{Notes, Watcher};
-use core_join::Recorded;
 use core_loop::RingLinks;
+use core_machine::Recorded;
 use std::alloc::Global;
 use std::snapshot::Snapshot;
 use std::sync::Wait;

@@ -3,7 +3,7 @@
 ghost use Rattle.std.specs.Prelude.{◌≡◌, ◌≢◌, ◌++◌, ◌∷◌, [], List, None, IsTrue};
 ghost use Rattle.rx_queue.specs.Queue.{jobs_seen};
 ghost use Rattle.world_histories.specs.declared.history.Stamped.{Stamped as GhostStamped};
-ghost use Rattle.core_join.specs.declared.recorded.RecordedTurn.TheVariants.{Did};
+ghost use Rattle.core_machine.specs.declared.recorded.RecordedTurn.TheVariants.{Did};
 ghost use Rattle.core_threads.specs.Watchers.{HasLooked, AsksOfFront, AsksLeave, receipt_of, receipts_of};
 ghost use Rattle.core_threads.specs.Runs.{CoreRan, AfterTurn, StandsSo, HasSettled, HasDone};
 
@@ -11,8 +11,8 @@ use crate::backoff::Backoff;
 use crate::flags::Flags;
 use crate::halt::Halt;
 use crate::watcher::{Notes, Watcher};
-use core_join::{Recorded, RecordedTurn};
 use core_loop::Links;
+use core_machine::{Recorded, RecordedTurn};
 use std::sync::Wait;
 use std::time::Clock;
 use world_events::Event;

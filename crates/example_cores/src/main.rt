@@ -6,8 +6,8 @@ ghost use Rattle.std.specs.Prelude.{◌≡◌, ◌≤◌, ◌∷◌, [], length,
 ghost use Rattle.core_loop.specs.Cores.{AreShort};
 
 use bpf_insn::Insn;
-use core_boot::boot_cores;
 use core_loop::{Core, RingLinks, Turn};
+use core_machine::boot_cores;
 use filter_table::{Decision, Kept, Op, Program};
 use std::alloc::{AllocError, Global};
 use std::io::{self, Print};

@@ -15,18 +15,18 @@ use Rattle.world_model.specs.Decisions.{Delivers}
 use Rattle.world_model.proofs.Submissions.{eq_other}
 use Rattle.core_loop.specs.Keeping.{replica_of}
 use Rattle.core_loop.specs.Cores.{AreShort, begun, receipts}
-use Rattle.core_join.specs.Machines.{RingCore, IsMachine}
+use Rattle.core_machine.specs.Machines.{RingCore, IsMachine}
 use Rattle.core_links.specs.declared.ring_links.RingLinks.{RingLinks}
 use Rattle.core_links.specs.RingSlots.{ring_view}
 use Rattle.core_loop.specs.declared.part.Part.{Part}
 use Rattle.core_loop.specs.declared.part.Part.TheVariants as role
 use Rattle.core_loop.specs.Beginning.{HasNothingUnderWay}
 use Rattle.world_histories.specs.Histories.{Core0State}
-use Rattle.core_join.specs.Conclusions.{Concludes, OfMachine, StandsAt0, IsIdle0, histories_of}
-use Rattle.core_join.specs.Looking.{AreLookedAt}
-use Rattle.core_join.specs.Merges.{ListsRuns}
-use Rattle.core_boot.specs.Booting.{HaveRequests, AreGivable, IsMachineOf}
-use Rattle.core_boot.specs.Lanes.{items_for}
+use Rattle.core_machine.specs.Conclusions.{Concludes, OfMachine, StandsAt0, IsIdle0, histories_of}
+use Rattle.core_machine.specs.Looking.{AreLookedAt}
+use Rattle.core_machine.specs.Merges.{ListsRuns}
+use Rattle.core_machine.specs.Booting.{HaveRequests, AreGivable, IsMachineOf}
+use Rattle.core_machine.specs.Lanes.{items_for}
 use Rattle.core_threads.specs.declared.halt.Halt.{Halt}
 use Rattle.core_threads.specs.Ending.{EndsRightly, AreAllDone}
 use Rattle.core_threads.specs.Settling.{HasHalted, RunsToRest}
@@ -38,7 +38,7 @@ use Rattle.world_model.specs.Committed.{log_of}
 use Rattle.headline.specs.Shown.{replicas_of_cores}
 use Rattle.headline.specs.Ended.{HaveEnded}
 use Rattle.headline.proofs.OneList.{joined_tables, joined_begun, joined_received, joined_decided, joined_newest, joined_none_begun, joined_none_decided, joined_none_received}
-use Rattle.core_join.proofs.Told.{joined_deliver}
+use Rattle.core_machine.proofs.Told.{joined_deliver}
 
 -- the requests of cores other than 0 are short, so each can be given to its core
 short_for : (core : ℕ) (op : Op) → (0 < core → HasShortProgram op) → AreShort core (op ∷ [])

@@ -27,9 +27,9 @@ use Rattle.world_histories.specs.Answers.{begins_for}
 use Rattle.world_histories.proofs.Lists.{Found, found}
 use Rattle.world_histories.proofs.Merge.{run_of}
 use Rattle.world_histories.proofs.Requests.{Tracks, run_tracks}
-use Rattle.core_join.specs.Machines.{RingCore}
-use Rattle.core_join.specs.Conclusions.{Concludes, histories_of}
-use Rattle.core_join.specs.Merges.{ListsRuns}
+use Rattle.core_machine.specs.Machines.{RingCore}
+use Rattle.core_machine.specs.Conclusions.{Concludes, histories_of}
+use Rattle.core_machine.specs.Merges.{ListsRuns}
 use Rattle.headline.specs.Headline.{ShowTables, begun_by, begun_in}
 use Rattle.world_model.specs.Committed.{Told, nothing_told, told_with, log_of}
 use Rattle.headline.specs.Decided.{events_at}

@@ -30,15 +30,15 @@ use Rattle.core_loop.specs.declared.part.Part.TheVariants as role
 use Rattle.core_loop.specs.Keeping.{replica_of}
 use Rattle.core_loop.specs.Cores.{begins, begun, receipts}
 use Rattle.core_loop.specs.Receipts.{receives}
-use Rattle.core_join.specs.Machines.{RingCore}
-use Rattle.core_join.specs.Conclusions.{Concludes, StandsAtOther, IsIdle0, histories_of, version_of_core}
-use Rattle.core_join.specs.Merges.{ListsRuns, ListsRun}
+use Rattle.core_machine.specs.Machines.{RingCore}
+use Rattle.core_machine.specs.Conclusions.{Concludes, StandsAtOther, IsIdle0, histories_of, version_of_core}
+use Rattle.core_machine.specs.Merges.{ListsRuns, ListsRun}
 use Rattle.core_loop.specs.Answering.{own_decision, is_own, decisions_from, decisions}
 use Rattle.headline.specs.Decided.{events_at, decided_from, decided_in}
 use Rattle.headline.specs.Headline.{ShowTables, begun_by, begun_in, received_by, received_in}
 use Rattle.world_model.specs.Committed.{log_of}
 use Rattle.headline.specs.Shown.{replicas_of_cores}
-use Rattle.core_join.proofs.Told.{list_log, list_run, one_list}
+use Rattle.core_machine.proofs.Told.{list_log, list_run, one_list}
 
 -- Tables
 

@@ -18,9 +18,9 @@ use Rattle.world_histories.specs.Merging.{core_of}
 use Rattle.world_histories.specs.Answers.{begins_for}
 use Rattle.world_histories.proofs.Lists.{get_next}
 use Rattle.world_histories.proofs.Requests.{submits_by, submits_of, begins_of}
-use Rattle.core_drive.specs.declared.step.CoreStep.{CoreStep}
-use Rattle.core_drive.specs.declared.step.StepOutcome.{StepOutcome}
-use Rattle.core_drive.specs.Steps.{IsOf, did, of_core}
+use Rattle.core_machine.specs.declared.step.CoreStep.{CoreStep}
+use Rattle.core_machine.specs.declared.step.StepOutcome.{StepOutcome}
+use Rattle.core_machine.specs.Steps.{IsOf, did, of_core}
 use Rattle.headline.specs.Headline.{begun_by, begun_in}
 use Rattle.world_model.specs.Committed.{Told, nothing_told, asked, committing, told_with, log_of}
 use Rattle.headline.specs.Served.{events_of}

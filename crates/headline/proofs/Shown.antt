@@ -18,7 +18,7 @@ use Rattle.world_core.specs.Shown.{ShowsReplica}
 use Rattle.headline.specs.Headline.{ShowTables, AreEqualByVersion}
 use Rattle.world_model.specs.Committed.{log_of}
 use Rattle.headline.specs.Shown.{replica_of_peer, replicas_of}
-use Rattle.core_join.proofs.Logs.{run_log}
+use Rattle.core_machine.proofs.Logs.{run_log}
 
 same_state : (r : ReplicaState) (b : ℕ) (s : TableState) (staged : Option Op) → b ≡ r.budget → s ≡ r.shown → staged ≡ r.staged → Some (record { budget = b; shown = s; staged = staged }) ≡ Some r
 same_state r b s staged e e' e'' = rw (e, e', e'') refl

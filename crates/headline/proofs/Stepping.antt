@@ -20,28 +20,28 @@ use Rattle.world_histories.specs.Histories.{unstamped}
 use Rattle.world_histories.specs.Merging.{core_of, part, as_listed}
 use Rattle.core_loop.specs.declared.cause.Turn.TheVariants.{Did}
 use Rattle.core_loop.specs.Cores.{begun}
-use Rattle.core_join.specs.Machines.{RingCore, IsMachine, AreSameCores}
-use Rattle.core_join.specs.Conclusions.{Concludes, Conclude, histories_of, IsIdle0}
-use Rattle.core_join.specs.Merges.{ListsRuns}
-use Rattle.core_boot.specs.Booted.{HasDoneNothing}
+use Rattle.core_machine.specs.Machines.{RingCore, IsMachine, AreSameCores}
+use Rattle.core_machine.specs.Conclusions.{Concludes, Conclude, histories_of, IsIdle0}
+use Rattle.core_machine.specs.Merges.{ListsRuns}
+use Rattle.core_machine.specs.Booted.{HasDoneNothing}
 use Rattle.core_threads.specs.Recording.{HaveNoHistories}
-use Rattle.core_drive.specs.declared.step.CoreStep.{CoreStep}
-use Rattle.core_drive.specs.declared.step.Task.{Task}
-use Rattle.core_drive.specs.declared.step.Task.TheVariants.{Turn, Ask, Receive}
-use Rattle.core_drive.specs.declared.step.StepOutcome.{StepOutcome}
-use Rattle.core_drive.specs.declared.step.StepOutcome.TheVariants.{Turned, Received}
-use Rattle.core_drive.specs.Steps.{IsOf, did, asked_op, decided, of_core}
-use Rattle.core_drive.specs.Driving.{IsStep, IsGivable, DrivesAt, AreDriven}
-use Rattle.core_drive.proofs.Steps.{driven_none, driven_more}
-use Rattle.core_drive.proofs.Tasks.{drives_along}
-use Rattle.core_join.proofs.Machines.{machine_ran}
+use Rattle.core_machine.specs.declared.step.CoreStep.{CoreStep}
+use Rattle.core_machine.specs.declared.step.Task.{Task}
+use Rattle.core_machine.specs.declared.step.Task.TheVariants.{Turn, Ask, Receive}
+use Rattle.core_machine.specs.declared.step.StepOutcome.{StepOutcome}
+use Rattle.core_machine.specs.declared.step.StepOutcome.TheVariants.{Turned, Received}
+use Rattle.core_machine.specs.Steps.{IsOf, did, asked_op, decided, of_core}
+use Rattle.core_machine.specs.Driving.{IsStep, IsGivable, DrivesAt, AreDriven}
+use Rattle.core_machine.proofs.Steps.{driven_none, driven_more}
+use Rattle.core_machine.proofs.Tasks.{drives_along}
+use Rattle.core_machine.proofs.Machines.{machine_ran}
 use Rattle.filter_table.specs.declared.decision.Decision.{Decision}
 use Rattle.table_replica.specs.Shown.{ReplicaState}
 use Rattle.world_model.specs.Committed.{log_of}
-use Rattle.core_join.proofs.Along.{looked_same}
+use Rattle.core_machine.proofs.Along.{looked_same}
 use Rattle.core_loop.specs.Answering.{own_decision, is_own, decisions_from}
-use Rattle.core_settle.specs.Rounds.{CoreRests, AreAtRest, HasAllDecided, AreSeen}
-use Rattle.core_drive.proofs.Looking.{driven_looked}
+use Rattle.core_machine.specs.Rounds.{CoreRests, AreAtRest, HasAllDecided, AreSeen}
+use Rattle.core_machine.proofs.Looking.{driven_looked}
 use Rattle.headline.proofs.Ending.{idle_at}
 use Rattle.headline.specs.Headline.{begun_in}
 use Rattle.headline.specs.Shown.{replicas_of_cores}
@@ -51,7 +51,7 @@ use Rattle.headline.specs.Decided.{events_at, decided_from, decided_in}
 use Rattle.headline.specs.Starts.{StartOneByOne}
 use Rattle.headline.proofs.Ordering.{begun_at, AllOf, all_at, steps_own, steps_at, Silent, submits_parts, starts_parts, SameParts}
 use Rattle.headline.proofs.OneList.{joined_tables, joined_begun, joined_none_begun, none_beyond, history_at, joined_newest}
-use Rattle.core_join.proofs.Told.{joined_deliver}
+use Rattle.core_machine.proofs.Told.{joined_deliver}
 use Rattle.headline.proofs.Listed.{started_same, begun_in_same, tables_same, delivers_same, starts_one, run_starts, merged_lists, events_part, log_same}
 use Rattle.headline.proofs.Counts.{commits, quiet_runs, Counts, submits_of_same, nothing_left, order_one}
 use Rattle.headline.proofs.Parts.{Says, parts_say, parts_log}

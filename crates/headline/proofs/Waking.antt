@@ -14,18 +14,18 @@ use Rattle.core_loop.specs.declared.cause.Turn.{Turn}
 use Rattle.core_loop.specs.declared.cause.Turn.TheVariants as turn
 use Rattle.core_loop.specs.Answering.{decisions}
 use Rattle.core_loop.specs.Cores.{SameCore, NothingDone, DidOne, begun}
-use Rattle.core_join.specs.Machines.{RingCore, IsMachine}
-use Rattle.core_join.proofs.Lists.{get_indexed}
-use Rattle.core_settle.specs.Rounds.{AreSeen, AreAtRest, Idled, halt_of}
-use Rattle.core_settle.specs.Naming.{Awake, AllAwake, NoneAwake, NamingTurn, Wakes, NamedTurn, NamedTurns, names, turns_ahead}
-use Rattle.core_settle.proofs.Answering.{Answered, answered_none}
-use Rattle.core_settle.proofs.Naming.{named_rest, named_fewer}
-use Rattle.core_drive.specs.declared.step.Task.TheVariants as task
-use Rattle.core_drive.specs.declared.step.StepOutcome.TheVariants.{Turned}
-use Rattle.core_drive.specs.Steps.{did, decided}
-use Rattle.core_drive.specs.Driving.{CoreDrives, AreDriven, IsRunning}
-use Rattle.core_drive.proofs.Steps.{driven_none, driven_one, driven_same, placed}
-use Rattle.core_drive.proofs.Tasks.{turned}
+use Rattle.core_machine.specs.Machines.{RingCore, IsMachine}
+use Rattle.core_machine.proofs.Lists.{get_indexed}
+use Rattle.core_machine.specs.Rounds.{AreSeen, AreAtRest, Idled, halt_of}
+use Rattle.core_machine.specs.Naming.{Awake, AllAwake, NoneAwake, NamingTurn, Wakes, NamedTurn, NamedTurns, names, turns_ahead}
+use Rattle.core_machine.proofs.Answering.{Answered, answered_none}
+use Rattle.core_machine.proofs.Naming.{named_rest, named_fewer}
+use Rattle.core_machine.specs.declared.step.Task.TheVariants as task
+use Rattle.core_machine.specs.declared.step.StepOutcome.TheVariants.{Turned}
+use Rattle.core_machine.specs.Steps.{did, decided}
+use Rattle.core_machine.specs.Driving.{CoreDrives, AreDriven, IsRunning}
+use Rattle.core_machine.proofs.Steps.{driven_none, driven_one, driven_same, placed}
+use Rattle.core_machine.proofs.Tasks.{turned}
 use Rattle.headline.specs.Waking.{Halts, awake_of, turn_of_core}
 
 -- the cores were looked at and took such turns since

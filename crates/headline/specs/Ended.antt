@@ -5,10 +5,10 @@ use Rattle.filter_table.specs.Limits.{TableLimits}
 use Rattle.filter_table.specs.declared.operation.Op.{Op}
 use Rattle.rx_queue.specs.declared.job.Job.{Job}
 use Rattle.core_loop.specs.Cores.{begun, receipts}
-use Rattle.core_join.specs.Machines.{RingCore}
+use Rattle.core_machine.specs.Machines.{RingCore}
 use Rattle.core_threads.specs.Ending.{AreAllDone}
-use Rattle.core_boot.specs.Lanes.{items_for}
-use Rattle.core_boot.specs.Booting.{IsMachineOf}
+use Rattle.core_machine.specs.Lanes.{items_for}
+use Rattle.core_machine.specs.Booting.{IsMachineOf}
 
 -- the cores of a machine with these limits and budgets have begun these requests, and received these jobs but for those left
 pub record HaveEnded (limits : TableLimits) (budgets : List ℕ) (requests : List (ℕ × Op)) (jobs : List (ℕ × Job)) (cores : List RingCore) (left : List (ℕ × Job)) : Type 0 where

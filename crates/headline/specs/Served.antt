@@ -3,11 +3,11 @@ use Rattle.std.specs.Prelude.{◌≡◌, ◌⊎◌, ◌++◌, ℕ, List, [], ◌
 use Rattle.world_events.specs.declared.event.Done.{Done}
 use Rattle.core_loop.specs.declared.cause.Turn.{Turn}
 use Rattle.core_loop.specs.declared.cause.Turn.TheVariants as turn
-use Rattle.core_drive.specs.declared.step.CoreStep.{CoreStep}
-use Rattle.core_drive.specs.declared.step.Task.TheVariants as task
-use Rattle.core_drive.specs.declared.step.StepOutcome.{StepOutcome}
-use Rattle.core_drive.specs.declared.step.StepOutcome.TheVariants.{Turned}
-use Rattle.core_drive.specs.Steps.{did}
+use Rattle.core_machine.specs.declared.step.CoreStep.{CoreStep}
+use Rattle.core_machine.specs.declared.step.Task.TheVariants as task
+use Rattle.core_machine.specs.declared.step.StepOutcome.{StepOutcome}
+use Rattle.core_machine.specs.declared.step.StepOutcome.TheVariants.{Turned}
+use Rattle.core_machine.specs.Steps.{did}
 
 -- the events that the outcomes tell, with their answers, in the order of the steps
 abbrev pub events_of : List CoreStep → List StepOutcome → List Done

@@ -5,7 +5,7 @@ use Rattle.filter_table.specs.Tables.{table}
 use Rattle.table_replica.specs.Shown.{ReplicaState}
 use Rattle.world_model.specs.Worlds.{Peer, World}
 use Rattle.core_loop.specs.Keeping.{replica_of}
-use Rattle.core_join.specs.Machines.{RingCore}
+use Rattle.core_machine.specs.Machines.{RingCore}
 use Rattle.headline.specs.declared.replicas.Holder.{Holder}
 use Rattle.headline.specs.declared.replicas.Holder.TheVariants as holder
 

@@ -3,13 +3,13 @@
 use Rattle.std.specs.Prelude.{◌≡◌, ◌<◌, ℕ, Bool, true, false, List, slice_index_or}
 use Rattle.core_loop.specs.declared.cause.Turn.{Turn as Answer}
 use Rattle.core_loop.specs.declared.cause.Turn.TheVariants as answer
-use Rattle.core_join.specs.Machines.{RingCore, IsMachine}
-use Rattle.core_join.specs.Conclusions.{Conclude}
-use Rattle.core_drive.specs.declared.step.CoreStep.{CoreStep}
-use Rattle.core_drive.specs.declared.step.StepOutcome.{StepOutcome}
-use Rattle.core_drive.specs.declared.step.Task.TheVariants.{Turn}
-use Rattle.core_drive.specs.Driving.{AreDriven}
-use Rattle.core_settle.specs.Naming.{Awake}
+use Rattle.core_machine.specs.Machines.{RingCore, IsMachine}
+use Rattle.core_machine.specs.Conclusions.{Conclude}
+use Rattle.core_machine.specs.declared.step.CoreStep.{CoreStep}
+use Rattle.core_machine.specs.declared.step.StepOutcome.{StepOutcome}
+use Rattle.core_machine.specs.declared.step.Task.TheVariants.{Turn}
+use Rattle.core_machine.specs.Driving.{AreDriven}
+use Rattle.core_machine.specs.Naming.{Awake}
 use Rattle.headline.specs.Served.{events_of}
 use Rattle.headline.specs.Starts.{StartOneByOne}
 use Rattle.filter_table.specs.Limits.{TableLimits}

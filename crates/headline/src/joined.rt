@@ -2,15 +2,15 @@
 
 ghost use Rattle.std.specs.Prelude.{◌≡◌, ℕ, List, IfOk};
 ghost use Rattle.filter_table.specs.Limits.{TableLimits};
-ghost use Rattle.core_join.specs.Machines.{IsMachine};
-ghost use Rattle.core_join.specs.Conclusions.{Concludes, OfMachine, histories_of, listed_histories};
-ghost use Rattle.core_join.specs.Merges.{ListsRuns};
+ghost use Rattle.core_machine.specs.Machines.{IsMachine};
+ghost use Rattle.core_machine.specs.Conclusions.{Concludes, OfMachine, histories_of, listed_histories};
+ghost use Rattle.core_machine.specs.Merges.{ListsRuns};
 ghost use Rattle.headline.specs.Shown.{replicas_of_cores};
 
 use crate::machine::Did;
 use crate::replicas::{Holder, Replicas};
-use core_join::{Histories, Recorded, agree, merge};
 use core_loop::{Core, RingLinks};
+use core_machine::{Histories, Recorded, agree, merge};
 use std::alloc::{AllocError, Global};
 
 /// Cores, each without its list, and the lists.

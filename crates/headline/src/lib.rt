@@ -12,7 +12,7 @@ mod replicas;
 mod running;
 mod serving;
 
-pub use core_drive::{CoreStep, StepOutcome, Task};
+pub use core_machine::{CoreStep, StepOutcome, Task};
 pub use core_threads::Halt;
 pub use fault::Fault;
 pub use filter_verify::Refusal;

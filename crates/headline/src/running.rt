@@ -4,7 +4,7 @@ ghost use Rattle.std.specs.Prelude.{◌≡◌, ◌↔◌, ◌⊎◌, ◌<◌, �
 ghost use Rattle.filter_table.specs.Tables.{HasShortProgram};
 ghost use Rattle.world_model.specs.Decisions.{Delivers};
 ghost use Rattle.rx_queue.specs.declared.job.Job.{Job as GhostJob};
-ghost use Rattle.core_boot.specs.Lanes.{items_for};
+ghost use Rattle.core_machine.specs.Lanes.{items_for};
 ghost use Rattle.headline.specs.declared.fault.Fault.TheVariants.{CoreCount, Halted};
 ghost use Rattle.headline.specs.Decided.{decided_in};
 ghost use Rattle.core_threads.specs.Settling.{HasHalted};
@@ -16,8 +16,8 @@ ghost use Rattle.headline.specs.Ended.{HaveEnded};
 use crate::fault::Fault;
 use crate::joined::conclude_all;
 use crate::machine::Did;
-use core_join::Recorded;
 use core_loop::RingLinks;
+use core_machine::Recorded;
 use core_threads::{BootFault, Free, boot_with_limits, run_to_rest};
 use filter_table::{Limits, Op};
 use rx_queue::Job;

@@ -11,16 +11,16 @@ ghost use Rattle.world_histories.specs.Merging.{core_of};
 ghost use Rattle.filter_table.specs.declared.decision.Decision.{Decision as GhostDecision};
 ghost use Rattle.world_histories.specs.declared.history.Stamped.{Stamped as GhostStamped};
 ghost use Rattle.core_loop.specs.declared.cause.Turn.TheVariants.{Did};
-ghost use Rattle.core_join.specs.Machines.{RingCore, IsMachine, AreSameCores};
-ghost use Rattle.core_boot.specs.Booted.{HasDoneNothing};
-ghost use Rattle.core_settle.specs.Rounds.{AreAtRest, HasAllDecided, halt_of};
-ghost use Rattle.core_settle.specs.Naming.{NamedTurn, NoneAwake, names};
-ghost use Rattle.core_drive.specs.declared.step.CoreStep.{CoreStep as GhostStep};
-ghost use Rattle.core_drive.specs.declared.step.Task.TheVariants.{Turn as GhostTurn, Ask};
-ghost use Rattle.core_drive.specs.declared.step.StepOutcome.TheVariants.{Turned};
-ghost use Rattle.core_drive.specs.Steps.{IsOf, did, asked_op, of_core};
-ghost use Rattle.core_join.specs.Conclusions.{Conclude};
-ghost use Rattle.core_drive.specs.Driving.{IsStep, IsRunning, AreDriven};
+ghost use Rattle.core_machine.specs.Machines.{RingCore, IsMachine, AreSameCores};
+ghost use Rattle.core_machine.specs.Booted.{HasDoneNothing};
+ghost use Rattle.core_machine.specs.Rounds.{AreAtRest, HasAllDecided, halt_of};
+ghost use Rattle.core_machine.specs.Naming.{NamedTurn, NoneAwake, names};
+ghost use Rattle.core_machine.specs.declared.step.CoreStep.{CoreStep as GhostStep};
+ghost use Rattle.core_machine.specs.declared.step.Task.TheVariants.{Turn as GhostTurn, Ask};
+ghost use Rattle.core_machine.specs.declared.step.StepOutcome.TheVariants.{Turned};
+ghost use Rattle.core_machine.specs.Steps.{IsOf, did, asked_op, of_core};
+ghost use Rattle.core_machine.specs.Conclusions.{Conclude};
+ghost use Rattle.core_machine.specs.Driving.{IsStep, IsRunning, AreDriven};
 ghost use Rattle.headline.specs.declared.fault.Fault.TheVariants.{CoreCount, NoMemory};
 ghost use Rattle.headline.specs.Decided.{decided_in};
 ghost use Rattle.headline.specs.Headline.{ShowTables, AreEqualByVersion, begun_in};
@@ -30,11 +30,10 @@ ghost use Rattle.headline.specs.Waking.{AreDone, Halts, IsTurnOf, awake_of, turn
 
 use crate::fault::Fault;
 use crate::replicas::{Holder, Replicas};
-use core_boot::{BootFault, boot_machine};
-use core_drive::{CoreStep, StepOutcome, Task, drive};
-use core_join::agree_all;
 use core_loop::{Core, RingLinks, Turn};
-use core_settle::at_rest;
+use core_machine::{
+    BootFault, CoreStep, StepOutcome, Task, agree_all, at_rest, boot_machine, drive,
+};
 use filter_table::Limits;
 use std::alloc::{AllocError, Global};
 

@@ -2,7 +2,7 @@
 use Rattle.std.proofs.Common.{◌≡◌, ◌+◌, ◌-◌, ◌^◌, ◌++◌, ℕ, length, min, arith, length-append}
 use Rattle.core_loop.specs.Answering.{AreDecided, under_way}
 use Rattle.core_loop.specs.Cores.{begun}
-use Rattle.core_join.specs.Machines.{RingCore}
+use Rattle.core_machine.specs.Machines.{RingCore}
 use Rattle.mkdemux_cores.specs.Asking.{AreUnanswered}
 use Rattle.mkdemux_cores.specs.Turns.{IsNumber}
 

@@ -1,8 +1,8 @@
 -- Handles whose cores are settled.
 use Rattle.std.proofs.Common.{◌≡◌, ◌≢◌, ◌∙◌, ◌≤◌, ◌+◌, ◌⊎◌, inl, inr, ℕ, Option, None, Some, List, [], ◌∷◌, ◌++◌, map, length, refl, sym, ap, subst, append_assoc}
 use Rattle.std.specs.Prelude.{IfNone, IfSome}
-use Rattle.core_handle.specs.declared.handle.CoreHandle.{CoreHandle}
-use Rattle.core_join.specs.Machines.{RingCore}
+use Rattle.mkdemux_cores.specs.declared.handle.CoreHandle.{CoreHandle}
+use Rattle.core_machine.specs.Machines.{RingCore}
 use Rattle.mkdemux_cores.specs.Booting.{cores_of}
 use Rattle.mkdemux_cores.specs.Settling.{AreOpen, IsOf, AreNumbered, HasFault}
 

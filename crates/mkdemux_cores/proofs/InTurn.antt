@@ -7,7 +7,7 @@ use Rattle.filter_table.proofs.Lists.{get_some}
 use Rattle.core_loop.specs.declared.live.NotReceived.{NotReceived}
 use Rattle.core_loop.specs.declared.live.NotReceived.TheVariants as no
 use Rattle.core_loop.specs.Receiving.{HasReceived, IsRefused, version_now}
-use Rattle.core_join.specs.Machines.{RingCore}
+use Rattle.core_machine.specs.Machines.{RingCore}
 use Rattle.mkdemux_cores.specs.declared.bursts.Packet.{Packet}
 use Rattle.mkdemux_cores.specs.declared.answers.TheConstants.{DONE}
 use Rattle.mkdemux_cores.specs.Receipts.{needed, why_number}

@@ -1,6 +1,6 @@
 -- What a call on the core in a block does, as a call on its handle does it.
 use Rattle.std.proofs.Common.{◌≡◌, Option, Some, subst}
-use Rattle.core_join.specs.Machines.{RingCore}
+use Rattle.core_machine.specs.Machines.{RingCore}
 use Rattle.mkdemux_cores.specs.Leading.{Leads}
 
 pub leads : (P : RingCore → RingCore → Type 0) (before after : Option RingCore) (inner had new : RingCore) → inner ≡ had → before ≡ Some had → after ≡ Some new → P inner new → Leads P before after

@@ -1,3 +1,6 @@
+pub mod Laying
+pub mod Values
+pub mod Words
 pub mod Opening
 pub mod Telling
 pub mod Counting

@@ -6,7 +6,7 @@ use Rattle.endpoint_caps.specs.declared.Rights.TheVariants.{R, M, Rm}
 use Rattle.filter_table.specs.declared.operation.Op.{Op}
 use Rattle.core_loop.specs.Answering.{decisions}
 use Rattle.core_loop.specs.Cores.{begun}
-use Rattle.core_join.specs.Machines.{RingCore}
+use Rattle.core_machine.specs.Machines.{RingCore}
 
 -- one request more, after those that the core has, and nothing else is new
 abbrev pub HasAsked : Op → RingCore → RingCore → Type 0

@@ -1,9 +1,9 @@
 -- Cores that are opened.
 use Rattle.std.specs.Prelude.{◌≡◌, ◌≤◌, ◌==◌, if◌then◌else◌, ℕ, List, Option, Some, None, map, All}
-use Rattle.core_boot.specs.Booted.{HasDoneNothing}
-use Rattle.core_boot.specs.Booting.{IsMachineOf}
-use Rattle.core_handle.specs.declared.handle.CoreHandle.{CoreHandle}
-use Rattle.core_join.specs.Machines.{RingCore}
+use Rattle.core_machine.specs.Booted.{HasDoneNothing}
+use Rattle.core_machine.specs.Booting.{IsMachineOf}
+use Rattle.mkdemux_cores.specs.declared.handle.CoreHandle.{CoreHandle}
+use Rattle.core_machine.specs.Machines.{RingCore}
 use Rattle.filter_table.specs.Limits.{TableLimits}
 
 -- the cores that handles have, in order

@@ -2,7 +2,7 @@
 use Rattle.std.specs.Prelude.{◌≡◌, ◌≢◌, ◌≤◌, ◌-◌, ◌++◌, ℕ, Some, List, [], ◌∷◌, length, take, drop, slice_get, sum}
 use Rattle.filter_table.specs.declared.delivery.Kept.{Kept}
 use Rattle.core_loop.specs.Receiving.{HasReceived, version_now}
-use Rattle.core_join.specs.Machines.{RingCore}
+use Rattle.core_machine.specs.Machines.{RingCore}
 use Rattle.mkdemux_cores.specs.declared.answers.TheConstants.{DONE}
 use Rattle.mkdemux_cores.specs.declared.bursts.Packet.{Packet}
 use Rattle.mkdemux_cores.specs.Receipts.{IsNotReceived}

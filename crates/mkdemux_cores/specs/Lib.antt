@@ -1,3 +1,5 @@
+pub mod Rows
+pub mod Owning
 pub mod Reports
 pub mod Leading
 pub mod Turns

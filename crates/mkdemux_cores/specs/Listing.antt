@@ -4,8 +4,8 @@ use Rattle.bpf_insn.specs.declared.insn.Insn.{Insn}
 use Rattle.filter_table.specs.Listed.{ListedFilter}
 use Rattle.filter_table.specs.Tables.{TableState}
 use Rattle.core_loop.specs.Keeping.{replica_of}
-use Rattle.core_join.specs.Machines.{RingCore}
-use Rattle.table_listing.specs.Rows.{laid}
+use Rattle.core_machine.specs.Machines.{RingCore}
+use Rattle.mkdemux_cores.specs.Rows.{laid}
 use Rattle.mkdemux_cores.specs.declared.answers.TheConstants.{DONE, NO_FILTER, NO_ROOM}
 
 -- the table of a core's version

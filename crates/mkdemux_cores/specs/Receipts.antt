@@ -3,7 +3,7 @@ use Rattle.std.specs.Prelude.{◌≡◌, ℕ, List}
 use Rattle.core_loop.specs.Receiving.{IsRefused}
 use Rattle.core_loop.specs.declared.live.NotReceived.{NotReceived}
 use Rattle.core_loop.specs.declared.live.NotReceived.TheVariants as no
-use Rattle.core_join.specs.Machines.{RingCore}
+use Rattle.core_machine.specs.Machines.{RingCore}
 use Rattle.mkdemux_cores.specs.declared.answers.TheConstants.{NO_MEMORY, NO_ROOM, SPENT, STOPPED}
 
 abbrev pub why_number : NotReceived → ℕ

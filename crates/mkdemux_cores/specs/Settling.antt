@@ -1,11 +1,11 @@
 -- All cores of a machine, which are settled.
 use Rattle.std.specs.Prelude.{◌≡◌, ◌≤◌, ◌+◌, ◌⊎◌, ℕ, List, [], ◌∷◌, Option, Some, map, length}
 use Rattle.filter_table.specs.Limits.{TableLimits}
-use Rattle.core_handle.specs.declared.handle.CoreHandle.{CoreHandle}
-use Rattle.core_join.specs.Machines.{RingCore, IsMachine, AreSameCores}
-use Rattle.core_settle.specs.declared.settling.Settled.{Settled}
-use Rattle.core_settle.specs.declared.settling.Settled.TheVariants.{AtRest, Spent, NoMemory, NoRoom}
-use Rattle.core_settle.specs.Rounds.{AllKeep, EndsFor, TakesRounds}
+use Rattle.mkdemux_cores.specs.declared.handle.CoreHandle.{CoreHandle}
+use Rattle.core_machine.specs.Machines.{RingCore, IsMachine, AreSameCores}
+use Rattle.core_machine.specs.declared.settling.Settled.{Settled}
+use Rattle.core_machine.specs.declared.settling.Settled.TheVariants.{AtRest, Spent, NoMemory, NoRoom}
+use Rattle.core_machine.specs.Rounds.{AllKeep, EndsFor, TakesRounds}
 use Rattle.mkdemux_cores.specs.declared.answers.TheConstants.{CLOSED, DONE, NO_MEMORY, NOT_MACHINE, SPENT}
 use Rattle.mkdemux_cores.specs.Booting.{cores_of}
 

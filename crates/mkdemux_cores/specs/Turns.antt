@@ -12,7 +12,7 @@ use Rattle.core_loop.specs.Choosing.{ShowsNothing, NoMessageNow}
 use Rattle.core_loop.specs.Cores.{SameCore, DidOne, NothingDone, begun}
 use Rattle.core_loop.specs.Receipts.{receives}
 use Rattle.core_loop.specs.Turning.{IsSpent, HasWork, LacksMemory, StopsFirst}
-use Rattle.core_join.specs.Machines.{RingCore}
+use Rattle.core_machine.specs.Machines.{RingCore}
 use Rattle.mkdemux_cores.specs.declared.answers.TheConstants.{DONE, NO_MEMORY, STOPPED, SPENT, IDLE}
 use Rattle.mkdemux_cores.specs.declared.turned.Turned.{Turned}
 use Rattle.mkdemux_cores.specs.declared.turned.TheConstants.{NOTHING}

@@ -5,13 +5,13 @@ ghost use Rattle.bpf_insn.specs.declared.insn.Insn.{Insn as GhostInsn};
 ghost use Rattle.endpoint_caps.specs.declared.Rights.{Rights as GhostRights};
 ghost use Rattle.filter_table.specs.declared.operation.Op.TheVariants.{Create, Mint, Revoke, DropCap, Install, Remove, Replace};
 ghost use Rattle.core_loop.specs.Cores.{AreShort};
-ghost use Rattle.core_join.specs.Machines.{RingCore};
+ghost use Rattle.core_machine.specs.Machines.{RingCore};
 ghost use Rattle.mkdemux_cores.specs.Asking.{HasAsked, IsTooLong, rights_number};
 ghost use Rattle.mkdemux_cores.specs.Leading.{Leads};
 
 use crate::answers::{BAD_RIGHTS, CLOSED, DONE, NO_MEMORY, TOO_LONG};
+use crate::handle::CoreHandle;
 use bpf_insn::Insn;
-use core_handle::CoreHandle;
 use endpoint_caps::Rights;
 use filter_table::{Op, Program};
 use std::alloc::{AllocError, Global};

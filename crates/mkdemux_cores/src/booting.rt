@@ -2,15 +2,15 @@
 
 ghost use Rattle.std.specs.Prelude.{◌≡◌, ◌≢◌, ◌↔◌, ◌<◌, ◌≤◌, ◌⊎◌, All, None, Some, map, length, IfOk, IfSome, IfNone, OnSome, IsTrue, IsFalse};
 ghost use Rattle.filter_table.specs.Limits.{default_limits};
-ghost use Rattle.core_boot.specs.Booted.{HasDoneNothing};
-ghost use Rattle.core_boot.specs.Booting.{IsMachineOf};
+ghost use Rattle.core_machine.specs.Booted.{HasDoneNothing};
+ghost use Rattle.core_machine.specs.Booting.{IsMachineOf};
 ghost use Rattle.mkdemux_cores.specs.Booting as spec;
 ghost use Rattle.mkdemux_cores.specs.Booting.{AreClosed, AreLimits, AreOpened, cores_of};
 
 use crate::answers::{BAD_LIMITS, DONE, NO_MEMORY, NO_ROOM, NOT_CORES, OPEN};
-use core_boot::boot_machine;
-use core_handle::CoreHandle;
+use crate::handle::CoreHandle;
 use core_loop::{Core, RingLinks};
+use core_machine::boot_machine;
 use endpoint_caps::CapLimits;
 use filter_table::Limits;
 use monitor_2pc::{DEFAULT_MOST_CORES, MOST_CORES};

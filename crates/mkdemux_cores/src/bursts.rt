@@ -6,7 +6,7 @@ ghost use Rattle.mkdemux_cores.specs.Leading.{Leads};
 ghost use Rattle.mkdemux_cores.specs.Receipts.{why_number};
 
 use crate::answers::{CLOSED, DONE, NO_MEMORY, NO_ROOM, SPENT, STOPPED};
-use core_handle::CoreHandle;
+use crate::handle::CoreHandle;
 use core_loop::{Core, NotReceived, RingLinks};
 use filter_table::Kept;
 use std::alloc::Global;

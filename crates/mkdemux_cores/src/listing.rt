@@ -2,15 +2,17 @@
 
 ghost use Rattle.std.specs.Prelude.{◌≡◌, ◌≢◌, ◌↔◌, ◌≤◌, ◌⊎◌, None, Some, length, min};
 ghost use Rattle.filter_table.specs.Tables.{filter_at};
-ghost use Rattle.table_listing.specs.Rows.{cap_rows, filter_rows, laid};
-ghost use Rattle.core_join.specs.Machines.{RingCore};
+ghost use Rattle.mkdemux_cores.specs.Rows.{cap_rows, filter_rows, laid};
+ghost use Rattle.core_machine.specs.Machines.{RingCore};
 ghost use Rattle.mkdemux_cores.specs.Listing.{IsGiven, table_now};
 
 use crate::answers::{CLOSED, DONE, NO_FILTER, NO_ROOM};
+use crate::caps::{CapRow, list_caps};
+use crate::code::filter_code;
+use crate::filters::{FilterRow, list_filters};
+use crate::handle::CoreHandle;
 use bpf_insn::Insn;
-use core_handle::CoreHandle;
 use std::alloc::Global;
-use table_listing::{CapRow, FilterRow, filter_code, list_caps, list_filters};
 
 /// Puts the filters of the core's table whose ids are `from` or more at the front of the room, in order of their ids, as many as it
 /// has room for; `count` is how many these are. `DONE`, or `CLOSED`, and the count is 0. The rest of the room stays as it was.

@@ -3,10 +3,10 @@
 ghost use Rattle.std.specs.Prelude.{◌≡◌, None, Some};
 ghost use Rattle.core_loop.specs.Answering.{IsGivenCount};
 ghost use Rattle.core_loop.specs.Receiving.{version_now};
-ghost use Rattle.core_join.specs.Machines.{RingCore};
+ghost use Rattle.core_machine.specs.Machines.{RingCore};
 ghost use Rattle.mkdemux_cores.specs.Asking.{AreUnanswered};
 
-use core_handle::CoreHandle;
+use crate::handle::CoreHandle;
 use std::alloc::Global;
 
 /// The core's version of the table; 0 for a closed core.

@@ -1,15 +1,15 @@
 //! All cores of a machine, turned until nothing is left to do.
 
 ghost use Rattle.std.specs.Prelude.{◌≡◌, ◌≢◌, ◌≤◌, ◌<◌, ◌+◌, ◌++◌, ◌∷◌, [], ◌⊎◌, ◌↔◌, ℕ, List, None, Some, map, length, IfNone, IfSome, IsTrue, vec_capacity};
-ghost use Rattle.core_join.specs.Machines.{RingCore};
+ghost use Rattle.core_machine.specs.Machines.{RingCore};
 ghost use Rattle.mkdemux_cores.specs.Booting.{AreClosed, cores_of};
 ghost use Rattle.mkdemux_cores.specs.Settling.{answer_of, AreOfOneMachine, AreOpen, AreNumbered, HasFault, IsOf, Settles};
 
 use crate::answers::{CLOSED, DONE, NO_MEMORY, NOT_MACHINE, SPENT};
 use crate::booting::put_all;
-use core_handle::CoreHandle;
+use crate::handle::CoreHandle;
 use core_loop::{Core, RingLinks};
-use core_settle::{Settled, settle};
+use core_machine::{Settled, settle};
 use std::alloc::Global;
 
 /// Turns all cores of one machine, in the order of their numbers, round by round, until nothing is left to do: each

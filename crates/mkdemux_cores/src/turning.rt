@@ -5,8 +5,8 @@ ghost use Rattle.mkdemux_cores.specs.Leading.{Leads};
 ghost use Rattle.mkdemux_cores.specs.Turns.{HasTurned, IsNumber};
 
 use crate::answers::{CLOSED, DONE, IDLE, NO_MEMORY, SPENT, STOPPED};
+use crate::handle::CoreHandle;
 use crate::turned::{NOTHING, Turned, report};
-use core_handle::CoreHandle;
 use core_loop::{Core, RingLinks, Turn};
 use std::alloc::Global;
 

@@ -16,16 +16,16 @@ use Rattle.core_loop.specs.declared.part.Part.{Part}
 use Rattle.core_loop.specs.declared.part.Part.TheVariants as part
 use Rattle.core_loop.specs.Beginning.{HasNothingUnderWay}
 use Rattle.core_loop.specs.Cores.{begun}
-use Rattle.core_join.specs.Machines.{RingCore, IsMachine}
-use Rattle.core_join.specs.Conclusions.{Concludes, OfMachine, StandsAt0, StandsAtOther, IsIdle0, histories_of}
-use Rattle.core_join.specs.Merges.{ListsRuns}
+use Rattle.core_machine.specs.Machines.{RingCore, IsMachine}
+use Rattle.core_machine.specs.Conclusions.{Concludes, OfMachine, StandsAt0, StandsAtOther, IsIdle0, histories_of}
+use Rattle.core_machine.specs.Merges.{ListsRuns}
 use Rattle.core_threads.specs.declared.halt.Halt.{Halt}
-use Rattle.core_boot.specs.Booting.{HaveRequests, IsMachineOf}
+use Rattle.core_machine.specs.Booting.{HaveRequests, IsMachineOf}
 use Rattle.core_threads.specs.Ending.{EndsRightly, IsAtEnd}
 use Rattle.core_threads.specs.Settling.{RunsToRest}
-use Rattle.core_boot.specs.Lanes.{items_for}
+use Rattle.core_machine.specs.Lanes.{items_for}
 use Rattle.world_model.specs.Committed.{log_of}
-use Rattle.core_join.proofs.Told.{joined_deliver}
+use Rattle.core_machine.proofs.Told.{joined_deliver}
 use Rattle.sim_lines.specs.Events.{done_line}
 use Rattle.mk_script.specs.declared.script.Item.{Item}
 use Rattle.mk_script.specs.declared.script.Script.{Script}

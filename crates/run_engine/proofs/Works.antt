@@ -5,7 +5,7 @@ use Rattle.std.proofs.lemmas.List.Elements.{All-nil, All-cons, All-head, All-tai
 use Rattle.filter_table.specs.declared.operation.Op.{Op}
 use Rattle.rx_queue.specs.declared.job.Job.{Job}
 use Rattle.core_loop.specs.Cores.{AreShort}
-use Rattle.core_boot.specs.Booting.{AreGivable}
+use Rattle.core_machine.specs.Booting.{AreGivable}
 use Rattle.filter_table.specs.Tables.{HasShortProgram}
 use Rattle.world_events.specs.declared.event.Event.TheVariants.{Rx}
 use Rattle.world_events.specs.declared.event.Event.TheVariants as event

@@ -1,9 +1,9 @@
 -- What cores have done once their threads are joined. No public clause cites these.
 use Rattle.std.specs.Prelude.{◌≡◌, ◌<◌, ◌∷◌, ℕ, All, List, Some, length, slice_get}
 use Rattle.rx_queue.specs.declared.job.Job.{Job}
-use Rattle.core_join.specs.Machines.{RingCore, IsMachine}
+use Rattle.core_machine.specs.Machines.{RingCore, IsMachine}
 use Rattle.core_threads.specs.Ending.{IsAtEnd}
-use Rattle.core_boot.specs.Lanes.{items_for}
+use Rattle.core_machine.specs.Lanes.{items_for}
 use Rattle.mk_script.specs.declared.script.Item.{Item}
 use Rattle.run_engine.specs.Showing.{DidItsWork}
 use Rattle.filter_table.specs.Limits.{TableLimits}

@@ -10,7 +10,7 @@ use Rattle.world_histories.specs.Histories.{Core0State, OtherState, Computation}
 use Rattle.world_histories.specs.Merging.{Merged, as_listed}
 use Rattle.core_loop.specs.Answering.{decisions}
 use Rattle.core_loop.specs.Cores.{begun, receipts}
-use Rattle.core_boot.specs.Lanes.{items_for}
+use Rattle.core_machine.specs.Lanes.{items_for}
 use Rattle.world_model.specs.Committed.{log_of}
 use Rattle.sim_lines.specs.Events.{done_line, left_line}
 use Rattle.mk_script.specs.declared.script.Item.{Item}

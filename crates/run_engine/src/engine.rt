@@ -13,7 +13,7 @@ ghost use Rattle.run_engine.specs.Showing.{Shows, ShowsRun, ShowsRunScript};
 
 use crate::lines::{push_all_left, push_events};
 use crate::work::{Work, work_of};
-use core_join::{conclude, in_order};
+use core_machine::{conclude, in_order};
 use core_threads::{BootFault, Halt, Rested, RunFault, Watcher, boot_with_limits, run_to_rest};
 use engine_io::{EngineFault, Sink, Source, refuse_long, write_bytes};
 use filter_table::Limits;

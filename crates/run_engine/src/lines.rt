@@ -4,7 +4,7 @@ ghost use Rattle.std.specs.Prelude.{◌≡◌, ◌++◌, ℕ, List, OnOk, string
 ghost use Rattle.std.specs.List.{flat_map};
 ghost use Rattle.sim_lines.specs.Events.{done_line};
 ghost use Rattle.world_histories.specs.Merging.{listed};
-ghost use Rattle.core_join.specs.Merges.{shown_list};
+ghost use Rattle.core_machine.specs.Merges.{shown_list};
 ghost use Rattle.run_engine.specs.Showing.{ShowsLeft, left_lines};
 
 use core_loop::Stamped;

@@ -8,12 +8,12 @@ ghost use Rattle.core_links.specs.Flows.{HoldLines};
 ghost use Rattle.core_links.specs.RingSlots.{ring_view, link_to, own_of, AreJoinedLinks};
 ghost use Rattle.core_loop.specs.Standing.{IsSilent};
 ghost use Rattle.core_loop.specs.Cores.{AreShort};
-ghost use Rattle.core_join.specs.Machines.{HasPlace, IsMachine};
+ghost use Rattle.core_machine.specs.Machines.{HasPlace, IsMachine};
 
 use crate::facts::equal;
 use bpf_insn::TextFault;
-use core_join::{Histories, Recorded, conclude, in_order, merge};
 use core_loop::{Core, RingLinks, Stamped};
+use core_machine::{Histories, Recorded, conclude, in_order, merge};
 use monitor_messages::Vote;
 use pcap_reader::SharedPacket;
 use rx_queue::{Intake, Job, queue};

@@ -4,8 +4,8 @@ ghost use Rattle.std.specs.Prelude.{◌≡◌};
 
 use crate::facts::{equal, holds};
 use crate::words::{create, install};
-use core_boot::boot_cores;
 use core_loop::{Core, NotReceived, RingLinks, Turn};
+use core_machine::boot_cores;
 use filter_table::{Decision, Kept, Veto};
 use std::alloc::Global;
 use std::process::Abort;

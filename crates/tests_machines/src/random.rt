@@ -1,15 +1,14 @@
 //! Random requests, turns and packets at the cores of machines, done again as one list of events.
 
 ghost use Rattle.std.specs.Prelude.{◌<◌, ◌≤◌, All, IsTrue, length};
-ghost use Rattle.core_drive.specs.Driving.{IsStep};
+ghost use Rattle.core_machine.specs.Driving.{IsStep};
 
 use crate::again::is_done_again;
 use crate::facts::{equal_at, holds};
 use crate::words::is_step;
 use bpf_insn::Insn;
-use core_boot::boot_cores;
-use core_drive::{CoreStep, StepOutcome, Task, drive};
 use core_loop::Turn;
+use core_machine::{CoreStep, StepOutcome, Task, boot_cores, drive};
 use endpoint_caps::Rights;
 use filter_table::{Op, Program};
 use pcap_reader::SharedPacket;

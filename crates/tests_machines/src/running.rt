@@ -7,8 +7,8 @@ mod two_cores;
 ghost use Rattle.std.specs.Prelude.{◌≤◌, ◌<◌};
 ghost use Rattle.filter_table.specs.Tables.{HasShortProgram};
 
-use core_join::{Recorded, RecordedTurn};
 use core_loop::{Core, ListLinks};
+use core_machine::{Recorded, RecordedTurn};
 use rx_queue::{Port, queue};
 use std::alloc::{AllocError, Global};
 use std::collections::VecDeque;

@@ -1,13 +1,12 @@
 //! What comes of each step, by the rules of two-phase commit, on machines of one, two and three cores.
 
 ghost use Rattle.std.specs.Prelude.{◌<◌, ◌≤◌, All, IfSome, IsTrue, length};
-ghost use Rattle.core_drive.specs.Driving.{IsStep};
+ghost use Rattle.core_machine.specs.Driving.{IsStep};
 
 use crate::facts::{equal, equal_at};
 use crate::words::{create, install, is_step};
-use core_boot::boot_cores;
-use core_drive::{CoreStep, StepOutcome, Task, drive};
 use core_loop::{NotReceived, Turn};
+use core_machine::{CoreStep, StepOutcome, Task, boot_cores, drive};
 use filter_table::Decision;
 use std::alloc::{AllocError, Global};
 use std::process::Abort;

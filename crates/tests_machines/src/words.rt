@@ -3,10 +3,10 @@
 ghost use Rattle.std.specs.Prelude.{◌≡◌, ◌≤◌, ◌∷◌, [], IsTrue, IfOk, length};
 ghost use Rattle.filter_table.specs.Tables.{HasShortProgram};
 ghost use Rattle.core_loop.specs.Cores.{AreShort};
-ghost use Rattle.core_drive.specs.Driving.{IsStep};
+ghost use Rattle.core_machine.specs.Driving.{IsStep};
 
 use bpf_insn::Insn;
-use core_drive::{CoreStep, Task};
+use core_machine::{CoreStep, Task};
 use filter_table::{Op, Program};
 use std::alloc::{AllocError, Global};
 

@@ -4,7 +4,7 @@ ghost use Rattle.std.specs.Prelude.{◌≡◌, ◌<◌, ℕ, All, length, IfOk};
 ghost use Rattle.filter_table.specs.declared.operation.Op.{Op as GhostOp};
 ghost use Rattle.filter_table.specs.Tables.{HasShortProgram};
 ghost use Rattle.world_events.specs.declared.event.Event.TheVariants.{Submit};
-ghost use Rattle.core_drive.specs.declared.step.Task.TheVariants.{Ask};
+ghost use Rattle.core_machine.specs.declared.step.Task.TheVariants.{Ask};
 
 use crate::facts::equal;
 use filter_table::{Limits, Op};

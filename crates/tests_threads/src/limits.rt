@@ -4,7 +4,7 @@ ghost use Rattle.std.specs.Prelude.{◌≡◌, ◌<◌, ℕ, All};
 ghost use Rattle.filter_table.specs.declared.operation.Op.{Op as GhostOp};
 ghost use Rattle.filter_table.specs.Tables.{HasShortProgram};
 ghost use Rattle.world_events.specs.declared.event.Event.TheVariants.{Submit};
-ghost use Rattle.core_drive.specs.declared.step.Task.TheVariants.{Ask};
+ghost use Rattle.core_machine.specs.declared.step.Task.TheVariants.{Ask};
 
 use crate::calls::{LIMIT, install, of_core_0};
 use crate::facts::equal;

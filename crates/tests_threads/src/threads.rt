@@ -2,12 +2,12 @@
 
 ghost use Rattle.std.specs.Prelude.{◌≤◌, ◌<◌, ℕ, All, List, length, IfOk};
 ghost use Rattle.filter_table.specs.Limits.{default_limits};
-ghost use Rattle.core_join.specs.Machines.{IsMachine};
-ghost use Rattle.core_boot.specs.Booting.{AreGivable};
+ghost use Rattle.core_machine.specs.Machines.{IsMachine};
+ghost use Rattle.core_machine.specs.Booting.{AreGivable};
 
 use crate::facts::{equal, holds};
-use core_join::{Recorded, conclude, merge};
 use core_loop::RingLinks;
+use core_machine::{Recorded, conclude, merge};
 use core_threads::{
     BootFault, Ended, Free, Halt, Machine, Notes, RunFault, Watcher, boot, boot_with_limits,
     run_machine,

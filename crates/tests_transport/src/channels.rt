@@ -9,7 +9,7 @@ use monitor_messages::{Message, decode, encode};
 use std::alloc::{AllocError, Global};
 use std::process::Abort;
 use table_replica::Op;
-use world_channels::{Channel, Lines, Messages};
+use world_core::{Channel, Lines, Messages};
 
 /// The operation has no program, or one of at most 4,096 instructions.
 fn has_short_program(op: &Op) -> bool

@@ -17,7 +17,7 @@ use Rattle.world_histories.proofs.Parts.{part_own, part_other}
 use Rattle.sim_lines.specs.Events.{done_line}
 use Rattle.core_loop.specs.Receipts.{receives}
 use Rattle.core_loop.specs.Cores.{receipts}
-use Rattle.core_boot.specs.Lanes.{items_for}
+use Rattle.core_machine.specs.Lanes.{items_for}
 use Rattle.mk_script.specs.declared.script.Item.{Item}
 use Rattle.mk_script.specs.declared.script.Item.TheVariants.{Ask, Apply, Begin, Settle, Show}
 use Rattle.mk_script.specs.declared.script.Item.TheVariants as item

@@ -9,7 +9,7 @@ use Rattle.world_histories.specs.Merging.{listed, as_listed}
 use Rattle.world_histories.proofs.Merge.{run_of}
 use Rattle.sim_lines.specs.Events.{done_line, left_line}
 use Rattle.core_loop.specs.Cores.{begun}
-use Rattle.core_boot.specs.Lanes.{items_for}
+use Rattle.core_machine.specs.Lanes.{items_for}
 use Rattle.mk_script.specs.declared.script.Script.{Script}
 use Rattle.mk_script.specs.Limits.{HasLimits}
 use Rattle.mk_script.specs.Scripts.{AreFiles, Stands}

@@ -14,7 +14,7 @@ use Rattle.world_histories.specs.declared.history.Stamped.{Stamped}
 use Rattle.world_histories.specs.Merging.{core_of, part, Merged, as_short, as_listed}
 use Rattle.world_histories.proofs.Parts.{part_own, part_other}
 use Rattle.core_loop.specs.Cores.{begins, begun}
-use Rattle.core_boot.specs.Lanes.{items_for}
+use Rattle.core_machine.specs.Lanes.{items_for}
 use Rattle.mk_script.specs.declared.script.Item.{Item}
 use Rattle.run_engine.specs.Work.{requests_of}
 use Rattle.trace_runs.specs.Traces.{begun_at}

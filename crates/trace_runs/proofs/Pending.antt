@@ -5,7 +5,7 @@ use mathlib.Core.List.{IsPrefix}
 use Rattle.filter_table.specs.declared.operation.Op.{Op}
 use Rattle.world_model.proofs.Lists.{same_or_not}
 use Rattle.world_model.proofs.Submissions.{eq_self, eq_other}
-use Rattle.core_boot.specs.Lanes.{items_for}
+use Rattle.core_machine.specs.Lanes.{items_for}
 use Rattle.sim_engine.specs.declared.requests.PendingRequest.{PendingRequest}
 use Rattle.sim_engine.specs.Pending.{NoneAt, FirstAt}
 

@@ -10,7 +10,7 @@ use Rattle.world_histories.specs.Histories.{Core0State, OtherState, Computation}
 use Rattle.world_histories.specs.Merging.{Merged, AllEnd, as_listed}
 use Rattle.sim_lines.specs.Events.{event_line, done_line}
 use Rattle.core_loop.specs.Cores.{begun}
-use Rattle.core_boot.specs.Lanes.{items_for}
+use Rattle.core_machine.specs.Lanes.{items_for}
 use Rattle.mk_script.specs.declared.script.Item.{Item}
 use Rattle.sim_engine.specs.Simulations.{Simulation, just, Performs}
 use Rattle.sim_engine.specs.Showing.{ShowsItems}

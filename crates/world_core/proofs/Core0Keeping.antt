@@ -2,7 +2,7 @@
 use Rattle.std.proofs.Common.{◌≡◌, ◌∙◌, ◌∷◌, ℕ, zero, suc, Option, None, Some, List, drop, map, slice_get, refl, ap, sym, subst}
 use Rattle.std.specs.Prelude.{option_map, option_and_then}
 use Rattle.monitor_messages.specs.declared.message.Message.{Message}
-use Rattle.world_channels.specs.Channels.{first_of}
+use Rattle.world_core.specs.Channels.{first_of}
 use Rattle.world_model.specs.Agreement.{Expects}
 use Rattle.world_model.specs.Worlds as worlds
 use Rattle.world_model.proofs.Lists.{get_map}

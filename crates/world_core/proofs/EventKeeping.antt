@@ -11,7 +11,7 @@ use Rattle.world_events.specs.declared.fault.WorldFault.TheVariants.{NoSuchCore,
 use Rattle.world_core.specs.declared.core0.LoggedCore0.{LoggedCore0}
 use Rattle.world_core.specs.declared.peer.Peer.{Peer}
 use Rattle.world_model.specs.Worlds as worlds
-use Rattle.world_channels.specs.Channels.{first_of}
+use Rattle.world_core.specs.Channels.{first_of}
 use Rattle.two_phase.specs.Coordinators.{Idle}
 use Rattle.world_model.specs.Refusals.{channel, StandsFirst, WorldRefuses}
 use Rattle.world_core.specs.LoggedCore0s.{StartForRefuses}

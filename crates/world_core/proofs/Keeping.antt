@@ -7,7 +7,7 @@ use Rattle.filter_table.specs.Tables.{TableState, empty_table, table}
 use Rattle.filter_table.proofs.Tables.{limits-after}
 use Rattle.monitor_2pc.specs.Places.{after_commit}
 use Rattle.monitor_messages.specs.declared.message.Message.{Message}
-use Rattle.world_channels.specs.Channels.{first_of}
+use Rattle.world_core.specs.Channels.{first_of}
 use Rattle.world_events.specs.declared.event.Event.TheVariants.{Take}
 use Rattle.world_events.specs.declared.event.Answer.{Answer}
 use Rattle.world_model.specs.Cases.{sent_up}

@@ -1,3 +1,5 @@
+pub mod CarriedLines
+pub mod Joined
 pub mod Keeping
 pub mod WorldKeeping
 pub mod PeerKeeping

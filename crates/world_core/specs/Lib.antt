@@ -1,3 +1,5 @@
+pub mod Carrying
+pub mod Channels
 pub mod LoggedCore0s
 pub mod Keeping
 pub mod Sending

@@ -1,18 +1,18 @@
 //! Core 0 takes a message of another core.
 
 ghost use Rattle.std.specs.Prelude.{◌≡◌, Bool, Some, IfOk, OnErr, option_and_then};
-ghost use Rattle.world_channels.specs.Channels.{first_of};
+ghost use Rattle.world_core.specs.Channels.{first_of};
 ghost use Rattle.world_events.specs.declared.event.Event.TheVariants.{Take};
 ghost use Rattle.world_model.specs.Worlds as worlds;
 ghost use Rattle.world_model.specs.Refusals.{channel};
 ghost use Rattle.world_core.specs.Keeping.{seen_world, WorldIsKept};
 
+use crate::channel::Channel;
 use crate::core0::LoggedCore0;
 use crate::peer::{Peer, drop_at};
 use crate::sending::{make_ready, send};
 use monitor_2pc::Message;
 use std::alloc::{AllocError, Global};
-use world_channels::Channel;
 use world_events::Answer;
 
 /// Core 0 takes the oldest message of a core, which this is, and sends what follows.

@@ -4,15 +4,18 @@
 //! places in the protocol and the messages under way, and does one event after another, in any order.
 #![tactic(auto)]
 
+mod channel;
 mod core0;
 mod hearing;
+mod lines;
 mod peer;
 mod sending;
 mod settling;
 mod starting;
 mod world;
 
+pub use channel::{Channel, Messages};
 pub use filter_table::KeptList;
+pub use lines::{Lines, MessageLines};
 pub use world::{World, WorldOver};
-pub use world_channels::{Channel, Lines, MessageLines, Messages};
 pub use world_events::{Answer, BootFault, Done, Event, WorldFault};

@@ -6,11 +6,11 @@ ghost use Rattle.filter_table.specs.Tables.{HasShortProgram};
 ghost use Rattle.monitor_messages.specs.Coding.{IsNumbered, IsShort};
 ghost use Rattle.world_core.specs.Keeping.{ChangesOne, Submits, Takes, IsReadyAt, GivesUp, EachMatches, Readied, IsSent, RoomAt, RoomFrom};
 
+use crate::channel::Channel;
 use core_steps::OtherCore;
 use filter_table::{Limits, Op};
 use monitor_2pc::Message;
 use std::alloc::{AllocError, Global};
-use world_channels::Channel;
 use world_events::{Answer, WorldFault};
 
 /// A core other than core 0, with its channels from and to core 0.
@@ -34,7 +34,7 @@ impl<C: Channel> Drop for Peer<C> {
 impl<C: Channel> Peer<C> {
     ghost use Rattle.std.specs.Prelude.{◌≤◌, Bool, Option, [], Some, IfOk, IfErr, OnErr, OnOk};
     ghost use Rattle.monitor_messages.specs.declared.message.Message.{Message as GhostMessage};
-    ghost use Rattle.world_channels.specs.Channels.{first_of};
+    ghost use Rattle.world_core.specs.Channels.{first_of};
     ghost use Rattle.world_events.specs.declared.fault.WorldFault.TheVariants.{NoMemory};
     ghost use Rattle.filter_table.specs.Tables.{HasShortProgram};
     ghost use Rattle.monitor_messages.specs.Coding.{IsNumbered, IsShort};

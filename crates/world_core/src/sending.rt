@@ -6,10 +6,10 @@ ghost use Rattle.world_model.specs.Cases.{Outgoing as GhostOutgoing};
 ghost use Rattle.world_core.specs.Keeping.{EachMatches, Readied};
 ghost use Rattle.world_core.specs.Sending.{IsReady, IsMade, HasRoomFor, SentOut};
 
+use crate::channel::Channel;
 use crate::peer::{Peer, put_all, put_at, ready_all, ready_at};
 use core_steps::Outgoing;
 use std::alloc::{AllocError, Global};
-use world_channels::Channel;
 
 /// What is ready to be sent: a piece for each core that it goes to.
 #[derive(Drop)]

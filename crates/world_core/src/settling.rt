@@ -4,9 +4,9 @@ ghost use Rattle.std.specs.Prelude.{◌≡◌, ◌++◌, ◌+◌, ◌<◌, List,
 ghost use Rattle.two_phase.specs.Coordinators.{Idle};
 ghost use Rattle.world_events.specs.declared.event.Done.{Done as GhostDone};
 
+use crate::channel::Channel;
 use crate::world::WorldOver;
 use std::alloc::AllocError;
-use world_channels::Channel;
 use world_events::{Done, Event, WorldFault};
 
 impl<C: Channel> WorldOver<C> {

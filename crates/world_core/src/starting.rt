@@ -11,13 +11,13 @@ ghost use Rattle.world_core.specs.Keeping.{seen_world, WorldIsKept, EachMatches,
 ghost use Rattle.world_core.specs.Sending.{IsReady};
 ghost use Rattle.world_core.specs.LoggedCore0s.{StartForRefuses};
 
+use crate::channel::Channel;
 use crate::core0::LoggedCore0;
 use crate::peer::Peer;
 use crate::sending::{Ready, make_ready, send};
 use core_steps::Core0;
 use filter_table::{Op, StageFault};
 use std::alloc::{AllocError, Global};
-use world_channels::Channel;
 use world_events::{Answer, WorldFault};
 
 /// Core 0 starts an operation, and asks the other cores.

@@ -1,11 +1,12 @@
 //! The world of the cores.
 
 ghost use Rattle.std.specs.Prelude.{◌≡◌, ◌≢◌, ◌+◌, ◌∷◌, [], ℕ, Bool, None, Some, IfSome, IfNone, IfOk, IfErr, OnOk, OnErr, List, ◌<◌, ◌≤◌, All, length, map, slice_get, option_map};
-ghost use Rattle.world_channels.specs.Channels.{first_of};
+ghost use Rattle.world_core.specs.Channels.{first_of};
 ghost use Rattle.world_model.specs.Worlds.{new_peer};
 ghost use Rattle.world_core.specs.Keeping.{seen_peer, PeerIsKept};
 ghost use Rattle.std.specs.Option.{option_copied};
 
+use crate::channel::{Channel, Messages};
 use crate::core0::LoggedCore0;
 use crate::hearing::hear;
 use crate::peer::{Peer, submit_at, take_at};
@@ -17,7 +18,6 @@ use pcap_reader::SharedPacket;
 use std::alloc::{AllocError, Global};
 use std::marker::Model;
 use table_replica::Replica;
-use world_channels::{Channel, Messages};
 use world_events::{Answer, BootFault, Event, WorldFault};
 
 /// The world of the cores over channels of one kind, seen as the log, the place of each core in the protocol and the messages

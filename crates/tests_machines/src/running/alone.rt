@@ -4,8 +4,8 @@ ghost use Rattle.std.specs.Prelude.{◌≤◌, vec_len};
 
 use super::{core_of, create, creation, has_turned, place};
 use crate::facts::{equal, equal_at, holds};
-use core_join::{Recorded, RecordedTurn};
 use core_loop::{Cause, Core, ListLinks};
+use core_machine::{Recorded, RecordedTurn};
 use monitor_messages::{Message, encode};
 use rx_queue::{Port, queue};
 use std::alloc::Global;

@@ -5,9 +5,9 @@ ghost use Rattle.core_links.specs.RingSlots.{ring_view};
 ghost use Rattle.core_loop.specs.Standing.{IsSilent};
 
 use crate::facts::equal;
-use core_join::{Recorded, RecordedTurn};
 use core_links::Bell;
 use core_loop::{Cause, Core, LineFault, RingLinks};
+use core_machine::{Recorded, RecordedTurn};
 use rtrb::RingBuffer;
 use rx_queue::{Port, queue};
 use std::alloc::{AllocError, Global};

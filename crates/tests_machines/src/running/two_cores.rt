@@ -4,8 +4,8 @@ ghost use Rattle.std.specs.Prelude.{◌≤◌, vec_len};
 
 use super::{carry, core_of, creation, has_turned, place};
 use crate::facts::{equal, holds};
-use core_join::{Recorded, RecordedTurn};
 use core_loop::{Core, ListLinks, Stamped};
+use core_machine::{Recorded, RecordedTurn};
 use monitor_messages::{Message, Vote, encode};
 use rx_queue::{Port, queue};
 use std::alloc::{AllocError, Global};

@@ -1,5 +1,5 @@
 use Rattle.std.proofs.Common.{List, sym, subst}
-use Rattle.core_join.specs.Machines.{RingCore}
+use Rattle.core_machine.specs.Machines.{RingCore}
 use Rattle.core_threads.specs.Booted.{IsBootedMachine}
 use Rattle.core_threads.proofs.Recording.{booted_none, booted_machine}
 use Rattle.core_threads.proofs.booting.boot_with_limits.Goals as goal

@@ -1,5 +1,5 @@
 use Rattle.std.proofs.Common.{◌≡◌, drop}
-use Rattle.core_boot.specs.Lanes.{items_for}
+use Rattle.core_machine.specs.Lanes.{items_for}
 use Rattle.core_threads.proofs.ending.first_floor.Given as goal
 
 abbrev pub invariant-loop-item : goal.invariant-loop-item

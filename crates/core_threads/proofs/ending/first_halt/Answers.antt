@@ -1,6 +1,6 @@
 use Rattle.std.proofs.Common.{sym, ap, ◌∙◌, Some}
 use Rattle.std.proofs.lemmas.Option.{slice_get-get_or}
-use Rattle.core_join.specs.Machines.{RingCore}
+use Rattle.core_machine.specs.Machines.{RingCore}
 use Rattle.core_threads.proofs.Searches.{halted_at, none_halted_more, none_halted_all}
 use Rattle.core_threads.proofs.ending.first_halt.Goals as goal
 

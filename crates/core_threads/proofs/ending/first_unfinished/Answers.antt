@@ -1,10 +1,10 @@
 use Rattle.std.proofs.Common.{◌≡◌, sym, ap, ◌∙◌, Some, refl, subst}
 use Rattle.std.proofs.lemmas.Bool.{false≢true}
 use Rattle.std.proofs.lemmas.Option.{slice_get-get_or}
-use Rattle.core_join.specs.Machines.{RingCore}
-use Rattle.core_settle.specs.Rounds.{HasAllDecided}
+use Rattle.core_machine.specs.Machines.{RingCore}
+use Rattle.core_machine.specs.Rounds.{HasAllDecided}
 use Rattle.core_threads.specs.Ending.{IsAtEnd}
-use Rattle.core_boot.specs.Lanes.{items_for}
+use Rattle.core_machine.specs.Lanes.{items_for}
 use Rattle.core_threads.proofs.Searches.{unfinished_at, done_more, done_all}
 use Rattle.core_threads.proofs.ending.first_unfinished.Goals as goal
 

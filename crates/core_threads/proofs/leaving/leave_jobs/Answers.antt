@@ -1,7 +1,7 @@
 use Rattle.std.proofs.Common.{List, ℕ, ◌++◌, option_to_list, append_assoc, ap, ◌∙◌, subst}
 use Rattle.rx_queue.specs.declared.job.Job.{Job}
 use Rattle.rx_queue.specs.Queue.{jobs_put, jobs_taken}
-use Rattle.core_join.specs.Machines.{RingCore}
+use Rattle.core_machine.specs.Machines.{RingCore}
 use Rattle.core_threads.specs.Leaving.{Leaves}
 use Rattle.core_threads.proofs.Lefts.{leaves_along}
 use Rattle.core_threads.proofs.leaving.leave_jobs.Goals as goal

@@ -1,5 +1,5 @@
 use Rattle.std.proofs.Common.{List, subst}
-use Rattle.core_join.specs.Machines.{RingCore}
+use Rattle.core_machine.specs.Machines.{RingCore}
 use Rattle.core_threads.specs.Joining.{HaveRan}
 use Rattle.core_threads.proofs.Runs.{can_finish, ends_rightly, machine_still}
 use Rattle.core_threads.proofs.machine.run_machine.Goals as goal

@@ -1,7 +1,7 @@
 use Rattle.std.proofs.Common.{◌≡◌, ◌∙◌, ◌∷◌, sym, subst, rules}
 use Rattle.std.proofs.lemmas.Bool.{false≢true}
-use Rattle.core_join.specs.Machines.{RingCore}
-use Rattle.core_boot.specs.Lanes.{items_for}
+use Rattle.core_machine.specs.Machines.{RingCore}
+use Rattle.core_machine.specs.Lanes.{items_for}
 use Rattle.core_threads.specs.Ending.{IsAtEnd}
 use Rattle.core_threads.proofs.Resting.{at_end_more, at_end_first}
 use Rattle.core_threads.proofs.settling.+are_at_end.Goals as goal

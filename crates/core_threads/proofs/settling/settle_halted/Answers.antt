@@ -1,6 +1,6 @@
 use Rattle.std.proofs.Common.{refl, sym, ◌∙◌}
 use Rattle.std.proofs.lemmas.Bool.{false≢true}
-use Rattle.core_settle.specs.declared.settling.Settled.TheVariants.{AtRest}
+use Rattle.core_machine.specs.declared.settling.Settled.TheVariants.{AtRest}
 use Rattle.core_threads.proofs.Resting.{machine_itself, have_settled, ends_itself, all_done, leaves_receivable, machine_settled}
 use Rattle.core_threads.proofs.settling.settle_halted.Goals as goal
 

@@ -1,7 +1,7 @@
 use Rattle.std.proofs.Common.{◌≡◌, ap, ◌∙◌, subst}
 use denote.Param.Send.{sendable}
 use Rattle.core_threads.specs.Runs.{ThreadRan}
-use Rattle.core_join.proofs.Crossing.{with_list_send}
+use Rattle.core_machine.proofs.Crossing.{with_list_send}
 use Rattle.core_threads.proofs.Crossing.{ran_send}
 use Rattle.core_threads.proofs.flags.Flags.TheSendSync as flags
 use Rattle.core_threads.proofs.turning.Bounds.TheSendSync as bounds

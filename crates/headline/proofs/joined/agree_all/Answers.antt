@@ -1,6 +1,6 @@
 use Rattle.std.proofs.Common.{◌≡◌, ◌∷◌, ◌∙◌, List, ap, sym, rules, subst}
-use Rattle.core_join.specs.Machines.{RingCore, IsMachine}
-use Rattle.core_join.proofs.Agreeing.{of_machine, more_looked}
+use Rattle.core_machine.specs.Machines.{RingCore, IsMachine}
+use Rattle.core_machine.proofs.Agreeing.{of_machine, more_looked}
 use Rattle.headline.specs.Shown.{replicas_of_cores}
 use Rattle.headline.proofs.Ending.{looked_replicas}
 use Rattle.headline.proofs.joined.agree_all.Goals as goal

@@ -1,7 +1,7 @@
 use Rattle.std.proofs.Common.{◌≡◌, ◌≤◌, ◌+◌, ◌++◌, length}
 use Rattle.std.specs.Prelude.{vec_len, vec_capacity}
 use Rattle.std.specs.Vec.Iter.{into_iter_items}
-use Rattle.core_join.specs.Conclusions.{histories_of, listed_histories}
+use Rattle.core_machine.specs.Conclusions.{histories_of, listed_histories}
 use Rattle.headline.proofs.joined.part.Given as goal
 
 abbrev pub invariant-loop-one : goal.invariant-loop-one

@@ -1,6 +1,6 @@
 use Rattle.std.proofs.Common.{◌∙◌, ap, sym, length}
 use Rattle.headline.proofs.Shown.{tables_shown, equal_shown}
-use Rattle.core_join.proofs.Told.{delivers_shown}
+use Rattle.core_machine.proofs.Told.{delivers_shown}
 use Rattle.headline.proofs.Applying.{extends_boot, all_replicas}
 use Rattle.headline.specs.Shown.{replicas_of}
 use Rattle.headline.proofs.machine.one_by_one.Goals as goal

@@ -3,7 +3,7 @@ use Rattle.std.specs.Prelude.{option_map}
 use Rattle.std.proofs.lemmas.Bool.{ltb-true}
 use Rattle.std.proofs.lemmas.Option.{slice_get-map, slice_get_read}
 use Rattle.core_loop.specs.Keeping.{replica_of}
-use Rattle.core_join.specs.Machines.{RingCore}
+use Rattle.core_machine.specs.Machines.{RingCore}
 use Rattle.headline.proofs.replicas.replica_at.Goals as goal
 
 pub returns : goal.returns

@@ -1,10 +1,10 @@
 use Rattle.std.proofs.Common.{rules, ◌≡◌, ◌++◌, ◌∷◌, ◌∙◌, All, ℕ, List, [], length, ap, sym, subst, append_assoc}
 use Rattle.std.proofs.lemmas.List.{append-nil, nil_from_length}
 use Rattle.std.specs.Vec.Iter.{into_iter_items}
-use Rattle.core_drive.specs.declared.step.CoreStep.{CoreStep}
-use Rattle.core_drive.specs.declared.step.StepOutcome.{StepOutcome}
+use Rattle.core_machine.specs.declared.step.CoreStep.{CoreStep}
+use Rattle.core_machine.specs.declared.step.StepOutcome.{StepOutcome}
 use Rattle.std.proofs.lemmas.List.Elements.{All-append}
-use Rattle.core_drive.specs.Driving.{IsStep, IsRunning, AreDriven}
+use Rattle.core_machine.specs.Driving.{IsStep, IsRunning, AreDriven}
 use Rattle.headline.specs.Waking.{AreDone}
 use Rattle.headline.proofs.Stepping.{done_none, done_more, driven_first, no_histories, inside_front}
 use Rattle.headline.proofs.serving.drive_each.Goals as goal

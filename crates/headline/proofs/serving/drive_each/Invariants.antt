@@ -1,8 +1,8 @@
 use Rattle.std.proofs.Common.{All, ◌≡◌, ◌++◌, ℕ, List}
 use Rattle.std.specs.Vec.Iter.{into_iter_items}
 use Rattle.filter_table.specs.Limits.{TableLimits}
-use Rattle.core_join.specs.Machines.{IsMachine}
-use Rattle.core_drive.specs.Driving.{IsRunning}
+use Rattle.core_machine.specs.Machines.{IsMachine}
+use Rattle.core_machine.specs.Driving.{IsRunning}
 use Rattle.headline.specs.Waking.{AreDone}
 use Rattle.headline.proofs.serving.drive_each.Given as goal
 

@@ -3,10 +3,10 @@ use Rattle.std.specs.Prelude.{IfSome}
 use Rattle.std.proofs.lemmas.Bool.{cases_lt}
 use Rattle.std.proofs.lemmas.List.Elements.{All-append}
 use Rattle.filter_table.specs.Limits.{TableLimits}
-use Rattle.core_join.specs.Machines.{RingCore, IsMachine}
-use Rattle.core_boot.specs.Booting.{IsMachineOf}
-use Rattle.core_boot.proofs.Machines.{machine_of}
-use Rattle.core_drive.specs.declared.step.CoreStep.{CoreStep}
+use Rattle.core_machine.specs.Machines.{RingCore, IsMachine}
+use Rattle.core_machine.specs.Booting.{IsMachineOf}
+use Rattle.core_machine.proofs.BootedMachines.{machine_of}
+use Rattle.core_machine.specs.declared.step.CoreStep.{CoreStep}
 use Rattle.headline.specs.Served.{events_of}
 use Rattle.headline.specs.Waking.{IsTurnOf}
 use Rattle.headline.proofs.Shown.{equal_shown}

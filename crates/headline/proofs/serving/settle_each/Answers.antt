@@ -1,14 +1,14 @@
 use Rattle.std.proofs.Common.{◌≡◌, ◌∙◌, ◌++◌, ◌∷◌, ◌<◌, All, ℕ, List, [], length, Bool, true, false, sym, ap, subst}
 use Rattle.std.proofs.lemmas.List.{append-nil, length-replicate}
 use Rattle.std.proofs.lemmas.List.Elements.{All-append, All-nil, All-cons}
-use Rattle.core_join.specs.Machines.{RingCore}
-use Rattle.core_join.proofs.Machines.{machine_ran}
-use Rattle.core_drive.specs.declared.step.CoreStep.{CoreStep}
-use Rattle.core_drive.specs.declared.step.StepOutcome.{StepOutcome}
-use Rattle.core_drive.specs.declared.step.StepOutcome.TheVariants.{Turned}
-use Rattle.core_drive.specs.Driving.{IsRunning}
-use Rattle.core_settle.specs.Rounds.{AreSeen, AreAtRest, HasAllDecided}
-use Rattle.core_settle.specs.Naming.{NamedTurn, NoneAwake, turns_ahead}
+use Rattle.core_machine.specs.Machines.{RingCore}
+use Rattle.core_machine.proofs.Machines.{machine_ran}
+use Rattle.core_machine.specs.declared.step.CoreStep.{CoreStep}
+use Rattle.core_machine.specs.declared.step.StepOutcome.{StepOutcome}
+use Rattle.core_machine.specs.declared.step.StepOutcome.TheVariants.{Turned}
+use Rattle.core_machine.specs.Driving.{IsRunning}
+use Rattle.core_machine.specs.Rounds.{AreSeen, AreAtRest, HasAllDecided}
+use Rattle.core_machine.specs.Naming.{NamedTurn, NoneAwake, turns_ahead}
 use Rattle.headline.specs.Waking.{AreDone, IsTurnOf, awake_of, turn_of_core}
 use Rattle.headline.proofs.Stepping.{seen_same, done_looked, turned_more, turns_more, written_back}
 use Rattle.headline.proofs.Waking.{running_halts, Named, named_start, named_more, named_rests, named_less, all_set, map_itself}

@@ -1,9 +1,9 @@
 use Rattle.std.proofs.Common.{All, ◌≡◌, ◌++◌, ℕ, List, length}
-use Rattle.core_join.specs.Machines.{RingCore, IsMachine}
-use Rattle.core_boot.specs.Booted.{HasDoneNothing}
-use Rattle.core_drive.specs.declared.step.CoreStep.{CoreStep}
-use Rattle.core_drive.specs.Driving.{IsStep, IsRunning}
-use Rattle.core_settle.specs.Naming.{turns_ahead}
+use Rattle.core_machine.specs.Machines.{RingCore, IsMachine}
+use Rattle.core_machine.specs.Booted.{HasDoneNothing}
+use Rattle.core_machine.specs.declared.step.CoreStep.{CoreStep}
+use Rattle.core_machine.specs.Driving.{IsStep, IsRunning}
+use Rattle.core_machine.specs.Naming.{turns_ahead}
 use Rattle.headline.specs.Waking.{AreDone, IsTurnOf, awake_of}
 use Rattle.headline.proofs.Waking.{Named}
 use Rattle.headline.proofs.serving.settle_each.Given as goal

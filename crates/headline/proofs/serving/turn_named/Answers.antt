@@ -1,13 +1,13 @@
 use Rattle.std.proofs.Common.{◌≡◌, ◌∙◌, ◌∷◌, ◌<◌, [], ℕ, true, cond, length, slice_set, slice_index_or, refl, sym, subst, arith}
 use Rattle.std.proofs.lemmas.List.{get_or-set_same}
-use Rattle.core_join.specs.Machines.{RingCore}
-use Rattle.core_join.proofs.Machines.{machine_ran}
-use Rattle.core_drive.specs.declared.step.StepOutcome.TheVariants.{Turned}
-use Rattle.core_drive.proofs.Steps.{driven_same}
-use Rattle.core_drive.proofs.Looking.{driven_looked, ran_before}
-use Rattle.core_drive.proofs.Running.{turned_running, step_running}
-use Rattle.core_settle.specs.Naming.{names}
-use Rattle.core_settle.proofs.Answering.{Answered}
+use Rattle.core_machine.specs.Machines.{RingCore}
+use Rattle.core_machine.proofs.Machines.{machine_ran}
+use Rattle.core_machine.specs.declared.step.StepOutcome.TheVariants.{Turned}
+use Rattle.core_machine.proofs.Steps.{driven_same}
+use Rattle.core_machine.proofs.Looking.{driven_looked, ran_before}
+use Rattle.core_machine.proofs.Running.{turned_running, step_running}
+use Rattle.core_machine.specs.Naming.{names}
+use Rattle.core_machine.proofs.Answering.{Answered}
 use Rattle.headline.specs.Waking.{awake_of, turn_of_core}
 use Rattle.headline.proofs.Waking.{indexed_at, turn_driven, named_of}
 use Rattle.headline.proofs.serving.turn_named.Goals as goal

@@ -1,7 +1,7 @@
 use Rattle.std.proofs.Common.{List, Option, subst}
 use Rattle.bpf_insn.specs.declared.insn.Insn.{Insn}
 use Rattle.filter_table.specs.declared.operation.Op.TheVariants.{Install}
-use Rattle.core_join.specs.Machines.{RingCore}
+use Rattle.core_machine.specs.Machines.{RingCore}
 use Rattle.mkdemux_cores.specs.Asking.{HasAsked}
 use Rattle.mkdemux_cores.specs.Leading.{Leads}
 use Rattle.mkdemux_cores.proofs.asking.mkdemux_ask_install.Goals as goal

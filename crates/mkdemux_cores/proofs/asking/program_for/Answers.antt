@@ -1,5 +1,5 @@
 use Rattle.std.proofs.Common.{◌≡◌, ap, ◌∙◌, refl, arith}
-use Rattle.core_join.specs.Machines.{RingCore}
+use Rattle.core_machine.specs.Machines.{RingCore}
 use Rattle.mkdemux_cores.proofs.asking.program_for.Goals as goal
 
 pub returns-then-code-gt-MOST_INSTRUCTIONS-clause-too_long : goal.returns-then-code-gt-MOST_INSTRUCTIONS-clause-too_long

@@ -1,5 +1,5 @@
 use Rattle.std.proofs.Common.{◌≡◌, ◌<◌, ℕ, None, slice_index_or}
-use Rattle.core_handle.specs.declared.handle.CoreHandle.{CoreHandle}
+use Rattle.mkdemux_cores.specs.declared.handle.CoreHandle.{CoreHandle}
 use Rattle.mkdemux_cores.specs.Booting.{cores_of}
 use Rattle.mkdemux_cores.proofs.booting.is_any_open.Given as goal
 

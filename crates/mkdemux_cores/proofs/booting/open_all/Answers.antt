@@ -1,7 +1,7 @@
 use Rattle.std.proofs.Common.{map, Some, length, refl, ap, sym, ◌∙◌, arith}
 use Rattle.std.proofs.lemmas.List.{length-map}
 use Rattle.std.proofs.lemmas.Simd.{map-map}
-use Rattle.core_join.specs.Machines.{RingCore}
+use Rattle.core_machine.specs.Machines.{RingCore}
 use Rattle.mkdemux_cores.proofs.Opening.{same_at}
 use Rattle.mkdemux_cores.proofs.booting.open_all.Goals as goal
 

@@ -1,4 +1,4 @@
-use Rattle.core_join.specs.Machines.{RingCore}
+use Rattle.core_machine.specs.Machines.{RingCore}
 use Rattle.mkdemux_cores.specs.Bursts.{IsBurst}
 use Rattle.mkdemux_cores.proofs.Leading.{leads}
 use Rattle.mkdemux_cores.proofs.bursts.mkdemux_receive_packets.Goals as goal

@@ -1,6 +1,6 @@
 use Rattle.std.proofs.Common.{take, length}
 use Rattle.core_loop.specs.Receiving.{HasReceived}
-use Rattle.core_join.specs.Machines.{RingCore}
+use Rattle.core_machine.specs.Machines.{RingCore}
 use Rattle.mkdemux_cores.specs.Receipts.{IsNotReceived}
 use Rattle.mkdemux_cores.proofs.Leading.{leads}
 use Rattle.mkdemux_cores.proofs.receiving.mkdemux_receive.Goals as goal

@@ -2,7 +2,7 @@ use Rattle.std.proofs.Common.{◌∙◌, ◌++◌, List, ℕ, ap, string_bytes, 
 use Rattle.std.specs.List.{flat_map}
 use Rattle.sim_lines.specs.Events.{done_line}
 use Rattle.world_histories.specs.declared.history.Stamped.{Stamped}
-use Rattle.core_join.specs.Merges.{ListsRuns, shown_list}
+use Rattle.core_machine.specs.Merges.{ListsRuns, shown_list}
 use Rattle.mk_script.specs.declared.script.Item.{Item}
 use Rattle.run_engine.specs.Running.{HaveDone}
 use Rattle.run_engine.proofs.Runs.{shows}

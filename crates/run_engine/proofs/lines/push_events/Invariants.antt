@@ -1,7 +1,7 @@
 use Rattle.std.proofs.Common.{◌≡◌, ◌++◌, drop, string_bytes}
 use Rattle.std.specs.List.{flat_map}
 use Rattle.sim_lines.specs.Events.{done_line}
-use Rattle.core_join.specs.Merges.{shown_list}
+use Rattle.core_machine.specs.Merges.{shown_list}
 use Rattle.run_engine.proofs.lines.push_events.Given as goal
 
 abbrev pub invariant-loop-event : goal.invariant-loop-event

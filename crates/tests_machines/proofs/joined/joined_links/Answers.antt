@@ -1,5 +1,5 @@
 use Rattle.std.proofs.Common.{false, suc, ◌∙◌, arith, rules}
-use Rattle.core_boot.proofs.Wires.{holding}
+use Rattle.core_machine.proofs.Wires.{holding}
 use Rattle.core_loop.proofs.Silent.{silent_empty, silent_more}
 use Rattle.tests_machines.proofs.joined.joined_links.Goals as goal
 

@@ -1,6 +1,6 @@
 use Rattle.std.proofs.Common.{◌≡◌, ℕ, [], ◌∷◌, None, refl}
 use Rattle.core_links.specs.RingSlots.{link_to}
-use Rattle.core_join.specs.Machines.{RingCore, HasPlace, IsMachine}
+use Rattle.core_machine.specs.Machines.{RingCore, HasPlace, IsMachine}
 use Rattle.tests_machines.proofs.joined.run_alone.Goals as goal
 use Rattle.filter_table.specs.Limits.{default_limits}
 

@@ -1,5 +1,5 @@
 use Rattle.std.proofs.Common.{ℕ, List, [], ◌∷◌}
-use Rattle.core_join.specs.Machines.{IsMachine}
+use Rattle.core_machine.specs.Machines.{IsMachine}
 use Rattle.tests_machines.proofs.joined.take_turns.Given as goal
 use Rattle.filter_table.specs.Limits.{default_limits}
 

@@ -1,4 +1,4 @@
-use Rattle.core_join.proofs.Machines.{machine_ran, same_more, same_none}
+use Rattle.core_machine.proofs.Machines.{machine_ran, same_more, same_none}
 use Rattle.tests_machines.proofs.joined.take_turns_alone.Goals as goal
 use Rattle.filter_table.specs.Limits.{default_limits}
 

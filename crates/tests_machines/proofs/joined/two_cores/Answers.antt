@@ -1,7 +1,7 @@
 use Rattle.std.proofs.Common.{◌≡◌, ℕ, zero, suc, [], ◌∷◌, None, Some, slice_get, refl, subst}
 use Rattle.core_links.specs.Flows.{HoldLines}
 use Rattle.core_links.specs.RingSlots.{link_to, AreJoinedLinks}
-use Rattle.core_join.specs.Machines.{RingCore, HasPlace, IsPeer, IsMachine}
+use Rattle.core_machine.specs.Machines.{RingCore, HasPlace, IsPeer, IsMachine}
 use Rattle.tests_machines.proofs.joined.two_cores.Goals as goal
 use Rattle.filter_table.specs.Limits.{default_limits}
 

@@ -1,7 +1,7 @@
 use Rattle.std.proofs.Common.{ℕ, List, [], ◌∷◌}
 use Rattle.std.proofs.lemmas.Result.{IfOk-at_ok}
-use Rattle.core_join.specs.Machines.{RingCore, IsMachine}
-use Rattle.core_boot.specs.Booting.{IsMachineOf}
+use Rattle.core_machine.specs.Machines.{RingCore, IsMachine}
+use Rattle.core_machine.specs.Booting.{IsMachineOf}
 use Rattle.tests_threads.proofs.threads.worked_run.Goals as goal
 use Rattle.filter_table.specs.Limits.{TableLimits, default_limits}
 

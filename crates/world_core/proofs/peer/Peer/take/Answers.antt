@@ -1,5 +1,5 @@
 use Rattle.std.proofs.Common.{◌≡◌, ◌∙◌, Some, sym}
-use Rattle.world_channels.specs.Channels.{first_of}
+use Rattle.world_core.specs.Channels.{first_of}
 use Rattle.world_core.proofs.Keeping.{first_rest}
 use Rattle.world_core.proofs.peer.Peer.take.Goals as goal
 

@@ -1,4 +1,0 @@
-pub mod Dealing
-pub mod Wires
-pub mod ComingUp
-pub mod Machines

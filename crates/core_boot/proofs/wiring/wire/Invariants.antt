@@ -1,5 +1,0 @@
-use Rattle.core_boot.specs.Wiring.{AreWired}
-use Rattle.core_boot.proofs.wiring.wire.Given as goal
-
-abbrev pub invariant-loop-peer : goal.invariant-loop-peer
-invariant-loop-peer l = AreWired l.cores l.peer l.first l.links.items

@@ -1,4 +1,0 @@
-pub mod Lanes
-pub mod Booted
-pub mod Wiring
-pub mod Booting

@@ -1,5 +1,0 @@
-use Rattle.core_join.proofs.Machines.{machine_ran}
-use Rattle.core_join.proofs.laws.cores_stay_a_machine.Goals as goal
-
-pub returns : goal.returns
-returns c = machine_ran

@@ -1,6 +1,0 @@
-use Rattle.core_join.specs.Merges.{shown_histories}
-use Rattle.core_join.proofs.Least.{FoundBelow}
-use Rattle.core_join.proofs.merging.least.Given as goal
-
-abbrev pub invariant-loop-core : goal.invariant-loop-core
-invariant-loop-core l = FoundBelow (shown_histories l.left) l.core l.least

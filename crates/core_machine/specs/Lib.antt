@@ -1,0 +1,14 @@
+pub mod Machines
+pub mod Conclusions
+pub mod Merges
+pub mod Looking
+pub mod Beside
+pub mod Ahead
+pub mod Rounds
+pub mod Naming
+pub mod Lanes
+pub mod Booted
+pub mod Wiring
+pub mod Booting
+pub mod Steps
+pub mod Driving

@@ -1,6 +1,0 @@
-use Rattle.std.proofs.Common.{sym}
-use Rattle.table_replica.specs.Lent.{shown_filter}
-use Rattle.table_listing.proofs.code.filter_code.Goals as goal
-
-pub returns : goal.returns
-returns c = ?

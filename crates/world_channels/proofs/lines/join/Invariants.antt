@@ -1,5 +1,0 @@
-use Rattle.world_channels.proofs.Joined.{HasJoined}
-use Rattle.world_channels.proofs.lines.join.Given as goal
-
-abbrev pub invariant-loop-place : goal.invariant-loop-place
-invariant-loop-place l = HasJoined l.joiner l.lines.items l.place
