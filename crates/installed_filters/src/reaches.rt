@@ -278,7 +278,8 @@ fn keep_raised(
     ensures { OnOk result (AreKept (GetsBy ends.now hits.now) captured kept.new.items) }
 {
     list_raises(ends, hits, raises)?;
-    gather(raises, captured, kept)
+    gather(raises, captured, kept)?;
+    Ok(())
 }
 
 /// Each endpoint that a packet reaches, with the verdict of each program by which it does, in place of what `raises` had.

@@ -5,13 +5,13 @@ ghost use Rattle.std.specs.Option.{option_copied};
 ghost use Rattle.std.specs.Map.{update};
 ghost use Rattle.std.specs.Str.{bytes_eq};
 
+use indexmap::IndexMap;
 use std::alloc::{AllocError, Global};
-use std::collections::BTreeMap;
 
-/// The names that are taken, and the value of each.
+/// The names that are taken, in the order in which they were, and the value of each.
 #[derive(Drop)]
 pub(crate) struct Names<'a, T> {
-    values: BTreeMap<&'a [u8], T>,
+    values: IndexMap<&'a [u8], T>,
 }
 
 impl<'a, T: Drop> Names<'a, T> {
@@ -21,7 +21,7 @@ impl<'a, T: Drop> Names<'a, T> {
         ensures { (name : List ℕ) → value_of result name ≡ None }
     {
         Names {
-            values: BTreeMap::new(alloc),
+            values: IndexMap::new(alloc),
         }
     }
 

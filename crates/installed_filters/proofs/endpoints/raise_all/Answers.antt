@@ -9,7 +9,7 @@ loop-entry-init c =
 pub overflow_cast-entry : goal.overflow_cast-entry
 overflow_cast-entry c =
     let p = subst (λ rest. Raising c.args.all.now.entries rest c.args.raises.now.items c.loop-entry.raises.items c.args.verdict) c.in-Some.ensures.steps c.loop-entry.invariant in
-    let lt = c.requires c.in-Some.entry.now.0 (raising_key c.args.all.now.entries c.in-Some.entry.now c.next.new.self c.args.raises.now.items c.loop-entry.raises.items c.args.verdict p) in omega (arith, lt)
+    let lt = c.requires.small c.in-Some.entry.now.0 (raising_key c.args.all.now.entries c.in-Some.entry.now c.next.new.self c.args.raises.now.items c.loop-entry.raises.items c.args.verdict p) in omega (arith, lt)
 
 pub loop-entry-preserved : goal.loop-entry-preserved
 loop-entry-preserved c =
