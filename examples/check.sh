@@ -210,6 +210,16 @@ full() {
     count full-output $?
 }
 
+# The awk programs of the recipes take the line of a fault, as a capture that was cut has, for no packet.
+takes_no_fault() {
+    sed -n "s/.*awk '\([^']*\)'.*/\1/p" ../docs/recipes.md > "$made/programs"
+    [ "$(wc -l < "$made/programs")" -ge 5 ] || return 1
+    while IFS= read -r program; do
+        printf '%s\n' '0 3 0 3' 'fault TruncatedRecord 24' | awk "$program" | grep -qv '^0 of 1 match' && return 1
+    done < "$made/programs"
+    return 0
+}
+
 closes
 full
 not_utf8
@@ -218,6 +228,8 @@ count conflicts $?
 unread
 closed_input
 words
+takes_no_fault
+count recipes-with-faults $?
 
 # The commands of each page, with what the page says that they print.
 for page in README.md docs/messages.md docs/recipes.md docs/scripts.md docs/run.md docs/pictures.md docs/crates.md examples/commands.md; do
