@@ -1,10 +1,21 @@
 /* Random programs and packets, here and in libpcap. What is accepted here libpcap accepts too, and both machines give one verdict.
- * Programs come back from their decimal text. What libpcap accepts and this library refuses is counted by rule.
+ * Programs come back from their decimal text. What libpcap accepts and this library refuses is counted by rule. All answers make one
+ * number, which is the same on each processor. With -DWITHOUT_LIBPCAP nothing is compared with libpcap.
  * Usage: difference [PROGRAMS [SEED]]. Status 0: nothing differs; 1: something does. */
+#ifndef WITHOUT_LIBPCAP
 #include <pcap.h>
+#endif
 #include <stdio.h>
 
 #include "mkdemux.h"
+
+#ifdef WITHOUT_LIBPCAP
+#define bpf_insn mkdemux_insn
+#define bpf_validate(code, count) 1
+#define bpf_filter(code, packet, original, captured) mkdemux_verdict(code, count, packet, captured, original)
+typedef uint16_t u_short;
+typedef uint8_t u_char;
+#endif
 
 enum { MOST = 24, PACKETS = 8, CAPTURED = 64 };
 
@@ -32,6 +43,16 @@ static uint32_t operand(uint16_t code, uint32_t left)
     if (code == 0x64 || code == 0x74)
         return draw(33); /* a shift */
     return draw(10) ? draw(CAPTURED + 6) : draw(UINT32_MAX);
+}
+
+/* The number that all answers make (FNV-1a of 64 bits). */
+static uint64_t answers = 14695981039346656037u;
+
+static void take_in(uint32_t answer)
+{
+    int i;
+    for (i = 0; i < 32; i += 8)
+        answers = (answers ^ (answer >> i & 0xff)) * 1099511628211u;
 }
 
 static void make_program(struct bpf_insn *code, uint32_t count)
@@ -92,6 +113,8 @@ static int run(unsigned long number, const mkdemux_program *program, const struc
         ours = mkdemux_filter(program, packet, original, captured);
         ending = mkdemux_run((const struct mkdemux_insn *)code, count, packet, captured, original);
         theirs = bpf_filter(code, packet, original, captured);
+        take_in(ours);
+        take_in(ending.steps);
         counts.runs++;
         counts.kept += ours != 0;
         if (ours != theirs)
@@ -123,6 +146,10 @@ static int compare(unsigned long number)
         status = differs("accepted here, refused by libpcap", number, code, count);
     else if (program)
         status = run(number, program, code, count);
+    take_in(rule);
+    take_in(place.place);
+    take_in(place.word);
+    take_in(place.path);
     counts.accepted += program != NULL;
     if (!program && rule < 11) {
         counts.refused[rule]++;
@@ -142,6 +169,7 @@ int main(int argc, char **argv)
             return 1;
     printf("%lu programs, %lu accepted, %lu runs, %lu of which kept something: none differs\n", programs, counts.accepted,
         counts.runs, counts.kept);
+    printf("all answers: %08lx%08lx\n", (unsigned long)(answers >> 32), (unsigned long)(answers & 0xffffffff));
     for (i = 1; i < 11; i++)
         if (counts.refused[i])
             printf("refused: %s %lu, of which libpcap accepts %lu\n", mkdemux_rule_name(i), counts.refused[i], counts.only_here[i]);

@@ -3,16 +3,16 @@
 way of calls through it. The code calls nothing by a pointer, and no function calls itself but those that TIMES names; either would be a
 failure. What malloc, realloc, free, memcpy, memmove, memset and memcmp take comes on top.
 
-    c/stack.py FOLDER      FOLDER/lib has the archives
+    c/stack.py PROCESSOR OBJDUMP FOLDER..      x86_64 or aarch64; a GNU objdump for it; folders that have archives
 
-A line for each library; the last line is `N passed, M failed`: a call may take no more than MOST says. It needs objdump and nm."""
+A line for each library; the last line is `N passed, M failed`: a call may take no more than MOST says."""
 import collections
 import pathlib
 import re
 import subprocess
 import sys
 
-# Bytes that a call may take; all that aren't named take at most 2,048.
+# Bytes that a call may take on x86-64 Linux; all that aren't named take at most 2,048. Elsewhere it may be a quarter more.
 MOST = {
     "mkdemux_boot_cores": 3392,
     "mkdemux_boot_limits_cores": 3392,
@@ -30,11 +30,15 @@ TIMES = {
     "mkdemux_cores::booting::put_all": 65,
 }
 OUTSIDE = {"malloc", "realloc", "free", "memcpy", "memmove", "memset", "memcmp"}
+# What a compiler for aarch64 calls for an atomic step. It takes no stack.
+ATOMIC = re.compile(r"^__aarch64_\w+_acq_rel$")
 
 HEAD = re.compile(r"^[0-9a-f]+ <(.+)>:$")
 SECTION = re.compile(r"^Disassembly of section (.+):$")
 STEP = re.compile(r"^ *[0-9a-f]+:\t(\S+) *(.*)$")
-RELOCATION = re.compile(r"^\t+[0-9a-f]+: R_X86_64_(?:PLT32|PC32)\t(.+?)(?:[-+]0x[0-9a-f]+)?$")
+RELOCATION = re.compile(r"^\t+[0-9a-f]+: R_(?:X86_64_(?:PLT32|PC32)|AARCH64_(?:CALL26|JUMP26))\t(.+?)(?:[-+]0x[0-9a-f]+)?$")
+# The bytes of a return address that a call puts on the stack.
+RETURN = {"x86_64": 8, "aarch64": 0}
 
 
 class Unclear(Exception):
@@ -52,11 +56,12 @@ def written(*command):
     return subprocess.run(command, check=True, capture_output=True, text=True).stdout
 
 
-def functions_of(archive):
+def functions_of(archive, processor, objdump):
     """The functions of an archive by their names, and those of sections by the names of these."""
     functions, in_section = collections.defaultdict(Function), {}
     section = name = last = None
-    for line in written("objdump", "-dr", "--no-show-raw-insn", archive).splitlines():
+    step = {"x86_64": step_of_x86_64, "aarch64": step_of_aarch64}[processor]
+    for line in written(objdump, "-dr", "--no-show-raw-insn", archive).splitlines():
         if found := SECTION.match(line):
             section = found[1]
         elif found := HEAD.match(line):
@@ -72,8 +77,39 @@ def functions_of(archive):
     return functions, in_section
 
 
-def step(function, name, word, rest):
-    """Takes an instruction in. The set that a call or a jump to another place than within the function adds to, and what it added."""
+def aim(function, name, rest, is_call):
+    """Takes in where a call or a jump leads. The set that it adds to, if it leads to another place than within the function, and what it
+    added."""
+    target = re.search(r"<(.+?)(?:\+0x[0-9a-f]+)?>$", rest)
+    aims = function.calls if is_call else function.jumps
+    if target and (target[1] != name or is_call):
+        aims.add(target[1])
+    return aims, target and target[1]
+
+
+def step_of_aarch64(function, name, word, rest):
+    """Takes an instruction in, as `aim` does if it is a call or a jump."""
+    rest = rest.split("//")[0].strip()
+    operands = rest.split(", ")
+    if word.startswith("st") and (pushed := re.search(r"\[sp, #-(\d+)\]!$", rest)):
+        function.frame += int(pushed[1])
+    elif word == "sub" and operands[0] == "sp":
+        if operands[1] == "x29":
+            return None, None  # (back to where the frame was)
+        if operands[1] != "sp" or not operands[2].startswith("#"):
+            raise Unclear(f"{name} takes a frame of no fixed size")
+        function.frame += int(operands[2][1:], 0) << (12 if operands[3:] == ["lsl #12"] else 0)
+    elif word not in ("add", "cmp") and operands[0] == "sp" and not (word == "mov" and operands[1] == "x29"):
+        raise Unclear(f"{name} changes the stack pointer: {word} {rest}")
+    elif word == "blr":
+        raise Unclear(f"{name} calls by a pointer")
+    elif word == "bl" or word == "b" or word.startswith("b."):
+        return aim(function, name, rest, word == "bl")
+    return None, None  # (`br`: a table of places within the function)
+
+
+def step_of_x86_64(function, name, word, rest):
+    """Takes an instruction in, as `aim` does if it is a call or a jump."""
     if word == "push":
         function.frame += 8
     elif word == "sub" and rest.endswith(",%rsp"):
@@ -87,22 +123,18 @@ def step(function, name, word, rest):
             if word.startswith("call"):
                 raise Unclear(f"{name} calls by a pointer")
             return None, None  # (a table of places within the function)
-        target = re.search(r"<(.+?)(?:\+0x[0-9a-f]+)?>$", rest)
-        aims = function.calls if word.startswith("call") else function.jumps
-        if target and (target[1] != name or word.startswith("call")):
-            aims.add(target[1])
-        return aims, target and target[1]
+        return aim(function, name, rest, word.startswith("call"))
     return None, None
 
 
-def depths(functions, in_section):
-    """The bytes below the return address that a function takes at most, by its name."""
+def depths(functions, in_section, address):
+    """The bytes below the return address that a function takes at most, by its name; a return address takes some itself."""
     known, open_now = {}, []
 
     def depth(name):
         name = in_section.get(name, name)
         if name in OUTSIDE or name not in functions:
-            if name not in OUTSIDE:
+            if name not in OUTSIDE and not ATOMIC.match(name):
                 raise Unclear(f"{name} isn't in the archive")
             return 0
         if name in open_now:
@@ -111,29 +143,35 @@ def depths(functions, in_section):
             open_now.append(name)
             own = functions[name]
             times = TIMES.get(name.split("::<")[0], 1) if name in own.calls else 1
-            inner = max((8 + depth(called) for called in own.calls if times == 1 or called != name), default=0)
-            known[name] = max([times * (own.frame + 8) - 8 + inner, *(depth(next_one) for next_one in own.jumps if next_one != name)])
+            inner = max((address + depth(called) for called in own.calls if times == 1 or called != name), default=0)
+            known[name] = max([times * (own.frame + address) - address + inner, *(depth(next_one) for next_one in own.jumps if next_one != name)])
             open_now.pop()
         return known[name]
 
     return depth
 
 
-def main(folder):
+def most(archive, processor, name):
+    """The bytes that a call of an archive may take."""
+    bytes = MOST.get(name, OTHERS)
+    return bytes if processor == "x86_64" and "kernel" not in archive.parts else bytes * 5 // 4
+
+
+def main(processor, objdump, *folders):
     sys.setrecursionlimit(10000)
     passed = failed = 0
-    for archive in sorted(pathlib.Path(folder, "lib").glob("libmkdemux*.a")):
+    for archive in sorted(path for folder in folders for path in pathlib.Path(folder).glob("libmkdemux*.a")):
         try:
-            depth = depths(*functions_of(archive))
-            names = [line.split()[2] for line in written("nm", "-g", "--defined-only", archive).splitlines() if " T " in line]
+            depth = depths(*functions_of(archive, processor, objdump), RETURN[processor])
+            names = [line.split()[-1] for line in written(objdump, "-t", archive).splitlines() if re.match(r"\S+ g +F \.text", line)]
             taken = {name: depth(name) for name in names}
         except Unclear as why:
-            print(f"stack, {archive.name}: {why}")
+            print(f"stack, {processor}, {archive}: {why}")
             failed += 1
             continue
-        above = [f"{name} {bytes} > {MOST.get(name, OTHERS)}" for name, bytes in taken.items() if bytes > MOST.get(name, OTHERS)]
-        most = sorted(taken.items(), key=lambda item: -item[1])
-        print(f"stack, {archive.name}: {', '.join(f'{name} {bytes:,}' for name, bytes in most)}" + (f": FAILED: {above}" if above else ""))
+        above = [f"{name} {bytes} > {most(archive, processor, name)}" for name, bytes in taken.items() if bytes > most(archive, processor, name)]
+        order = sorted(taken.items(), key=lambda item: -item[1])
+        print(f"stack, {processor}, {archive.parent.name}/{archive.name}: {', '.join(f'{name} {bytes:,}' for name, bytes in order)}" + (f": FAILED: {above}" if above else ""))
         failed += bool(above)
         passed += not above
     print(f"{passed} passed, {failed} failed")

@@ -5,8 +5,8 @@
  * are not trusted: a verifier checks each. A core says which endpoints get a packet.
  *
  * Link with -lmkdemux_cores (pkg-config mkdemux_cores). It needs only the C library. It has no global
- * state, starts no thread, takes no lock and never waits. It is for x86-64, C99 and C++. <mkdemux.h>, a
- * library of its own, may be included and linked, too.
+ * state, starts no thread, takes no lock and never waits. It is for x86-64 and aarch64, C99 and C++.
+ * <mkdemux.h>, a library of its own, may be included and linked, too.
  *
  * A machine is booted once:
  *
