@@ -131,6 +131,32 @@ installs_below() {
     DESTDIR=$made/root "$top/dist/install.sh" /usr && diff -r "$made/prefix" "$made/root/usr"
 }
 
+# A package for aarch64, made on this machine by a compiler for it: a program that uses both libraries links by the words of pkg-config and
+# by those for the shared library, and by the CMake package of dist/, and runs, as the program mkdemux does.
+makes_package() {
+    prefix=$made/arm/usr
+    MACHINE=aarch64 CC=$arm_cc DESTDIR=$made/arm "$top/dist/install.sh" /usr && both > "$made/program.c" && "$top/c/aarch64/run" "$prefix/bin/mkdemux" --version &&
+        words=$(PKG_CONFIG_PATH=$prefix/lib/pkgconfig pkg-config --cflags --libs mkdemux mkdemux_cores) &&
+        $arm_cc -o "$made/program" "$made/program.c" $words && "$top/c/aarch64/run" "$made/program" &&
+        words=$(PKG_CONFIG_PATH=$prefix/lib/pkgconfig pkg-config --cflags --libs mkdemux-shared) &&
+        $arm_cc -o "$made/program" "$made/program.c" $words && ARM_LIBRARIES=$prefix/lib "$top/c/aarch64/run" "$made/program"
+}
+
+# LIBRARIES: the CMake package where dist/ is, for aarch64; and there is none for a processor that dist/ has no libraries of.
+finds_package_for_aarch64() {
+    rm -rf "$made/cmake" && mkdir -p "$made/cmake" && cat > "$made/cmake/CMakeLists.txt" <<CMAKE && both > "$made/cmake/program.c" || return 1
+cmake_minimum_required(VERSION 3.13)
+project(program C)
+find_package(mkdemux 0.1 REQUIRED)
+add_executable(program program.c)
+target_link_libraries(program mkdemux::mkdemux mkdemux::cores)
+CMAKE
+    cmake -S "$made/cmake" -B "$made/cmake/out" -DCMAKE_PREFIX_PATH="$top/dist" -DCMAKE_SYSTEM_NAME=Linux -DCMAKE_SYSTEM_PROCESSOR=aarch64 \
+        -DCMAKE_C_COMPILER="$arm_cc" && cmake --build "$made/cmake/out" && "$top/c/aarch64/run" "$made/cmake/out/program" &&
+        ! cmake -S "$made/cmake" -B "$made/cmake/other" -DCMAKE_PREFIX_PATH="$top/dist" -DCMAKE_SYSTEM_NAME=Linux \
+            -DCMAKE_SYSTEM_PROCESSOR=riscv64 -DCMAKE_C_COMPILER="$arm_cc"
+}
+
 # --uninstall leaves nothing, and takes nothing else.
 uninstalls() {
     touch "$made/prefix/bin/other" && "$top/dist/install.sh" --uninstall "$made/prefix" &&
@@ -178,6 +204,22 @@ else
         try "the CMake package, libmkdemux.so" finds_package mkdemux::shared
     else
         echo "skipped: the CMake package: cmake isn't there"
+    fi
+fi
+arm_cc=${ARM_CC:-aarch64-linux-gnu-gcc}
+if [ "$(uname -sm)" != "Linux x86_64" ]; then
+    echo "skipped: a package for aarch64: this machine isn't x86-64 Linux"
+elif ! command -v "$arm_cc" > /dev/null || ! command -v qemu-aarch64-static > /dev/null || ! command -v pkg-config > /dev/null; then
+    echo "skipped: a package for aarch64: there is no $arm_cc, qemu-aarch64-static or pkg-config"
+elif [ ! -f "$top/dist/mkdemux-aarch64" ] || [ ! -f "$top/dist/lib/aarch64-linux-gnu/libmkdemux.a" ] ||
+    [ ! -f "$top/dist/lib/aarch64-linux-gnu/libmkdemux_cores.a" ]; then
+    echo "skipped: a package for aarch64: dist/ hasn't all of it"
+else
+    try "a package for aarch64" makes_package
+    if command -v cmake > /dev/null; then
+        try "the CMake package of dist/, for aarch64" finds_package_for_aarch64
+    else
+        echo "skipped: the CMake package of dist/, for aarch64: cmake isn't there"
     fi
 fi
 if [ "$("$top/dist/digest.sh")" = "$(cat "$top/dist/sources")" ] || [ -x "$top/crates/mkdemux/out/stamped/mkdemux" ]; then

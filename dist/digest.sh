@@ -36,6 +36,6 @@ else
     grep -q "^$1 staticlib:" crates.txt || { echo "digest: there is no static library $1" >&2; exit 2; }
     {
         grep "^$1 staticlib:" crates.txt
-        { ls HANDLES dist/KIT libmkdemux c/place.ld && files_in $(folders_of "$1"); } | LC_ALL=C sort | xargs sha256sum
+        { ls HANDLES dist/KIT libmkdemux dist/build.sh c/place.ld c/heap.c c/kernel-clang && files_in $(folders_of "$1"); } | LC_ALL=C sort | xargs sha256sum
     } | sha256sum | cut -d ' ' -f 1
 fi

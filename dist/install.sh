@@ -1,12 +1,14 @@
 #!/bin/sh
-# Installs what dist/ has under a prefix: the program, the manual page, the completions for bash, zsh and fish, the C libraries with
-# their headers, pkg-config files and CMake package where dist/ has them, all pages, and examples/. Of both C libraries it makes
-# libmkdemux.so, where there is a C compiler (CC, by default cc). It builds nothing else, and needs no kit.
+# Installs what dist/ has for this processor (x86-64 or aarch64) under a prefix: the program, the manual page, the completions for bash,
+# zsh and fish, the C libraries with their headers, pkg-config files and CMake package where dist/ has them, all pages, and examples/. Of
+# both C libraries it makes libmkdemux.so, where there is a C compiler (CC, by default cc). It builds nothing else, and needs no kit. The
+# archives for kernels stay in dist/lib/kernel.
 #
 #   dist/install.sh [PREFIX]               PREFIX is ~/.local, if none is given
 #   dist/install.sh --uninstall [PREFIX]   removes the files that it would install there, and the folders below PREFIX that are empty then
 #
-# With DESTDIR in the environment all files are written below that folder, for a package: nothing in them names it.
+# With DESTDIR in the environment all files are written below that folder, for a package: nothing in them names it. MACHINE in the
+# environment names another processor than this one, for a package, too; CC is a compiler for it then.
 # A line for each file says where it is now. It replaces files of these names, and touches no other.
 unset CDPATH
 say() {
@@ -65,17 +67,30 @@ else
 fi
 cd "$(dirname "$self")" || exit 1
 
+# The program of dist/ for the processor, and where its archives are.
+system=$(uname -s)
+machine=${MACHINE:-$(uname -m)}
+case $system-$machine in
+Linux-x86_64)
+    program=mkdemux
+    libs=lib
+    ;;
+Linux-aarch64)
+    program=mkdemux-aarch64
+    libs=lib/aarch64-linux-gnu
+    ;;
+*) [ $act = take ] || refuse "dist/ has programs and libraries for Linux on x86-64 and on aarch64 alone" ;;
+esac
+
 # The program that is to be installed: that of dist/, or the one that ./mkdemux built.
 find_program() {
     digest=$(./digest.sh) || exit 1
     built=../crates/mkdemux/out/stamped/mkdemux
-    if [ -x $built ] && [ "$digest" = "$(cat ${built%/*}/sources 2> /dev/null)" ]; then
+    if [ "$machine" = x86_64 ] && [ -x $built ] && [ "$digest" = "$(cat ${built%/*}/sources 2> /dev/null)" ]; then
         program=$built
-    elif [ "$(uname -sm)" = "Linux x86_64" ]; then
-        program=mkdemux
-        [ "$digest" = "$(cat sources)" ] || say "dist/mkdemux was built from other sources than those beside it"
     else
-        refuse "dist/mkdemux runs on x86-64 Linux only; ./mkdemux --version proves and builds one for this machine"
+        [ -f $program ] || refuse "there is no dist/$program"
+        [ "$digest" = "$(cat sources)" ] || say "dist/$program was built from other sources than those beside it"
     fi
 }
 
@@ -111,18 +126,29 @@ $list
 LIST
 }
 
+# The archives of the processor, and their pkg-config files: wherever they are in dist/, they are in lib/ under the prefix.
+put_libraries() {
+    for name in mkdemux mkdemux_cores; do
+        if [ $act = put ]; then
+            [ -f "$libs/lib$name.a" ] || continue
+            sed "s|^prefix=.*|prefix=\${pcfiledir}/../..|; s|/$libs |/lib |" "$libs/pkgconfig/$name.pc" > "$work/$name.pc" || exit 1
+        fi
+        $act 644 "${libs-}/lib$name.a" "lib/lib$name.a"
+        $act 644 "$work/$name.pc" "lib/pkgconfig/$name.pc"
+    done
+}
+
 # Makes one shared library of both archives, and a pkg-config file to link it. It has the calls of both headers as functions, and
 # no other name.
 make_shared() {
-    work=$(mktemp -d) || exit 1
-    trap 'rm -rf "$work"' EXIT
     echo '{ global: mkdemux_*; local: *; };' > "$work/names"
-    ${CC:-cc} -O2 -fPIC -shared -Iinclude -o "$work/libmkdemux.so.0" ../c/shared.c -Wl,--whole-archive lib/libmkdemux.a \
-        lib/libmkdemux_cores.a -Wl,--no-whole-archive -Wl,-soname,libmkdemux.so.0 "-Wl,--version-script=$work/names" -Wl,-z,defs ||
-        refuse "the C compiler makes no shared library of lib/libmkdemux.a and lib/libmkdemux_cores.a"
+    ${CC:-cc} -O2 -fPIC -shared -Iinclude -o "$work/libmkdemux.so.0" ../c/shared.c -Wl,--whole-archive $libs/libmkdemux.a \
+        $libs/libmkdemux_cores.a -Wl,--no-whole-archive -Wl,-soname,libmkdemux.so.0 "-Wl,--version-script=$work/names" -Wl,-z,defs ||
+        refuse "the C compiler makes no shared library of $libs/libmkdemux.a and $libs/libmkdemux_cores.a"
     version=$(sed -n 's/^#define MKDEMUX_VERSION "\(.*\)"$/\1/p' include/mkdemux.h)
     cat > "$work/mkdemux-shared.pc" <<PC
 prefix=\${pcfiledir}/../..
+processor=$machine
 Name: mkdemux-shared
 Description: both C libraries of mkdemux as one shared library
 Version: $version
@@ -134,7 +160,7 @@ PC
 # The shared library, its name for a linker, and its pkg-config file.
 share() {
     if [ $act = put ]; then
-        if [ ! -f lib/libmkdemux.a ] || [ ! -f lib/libmkdemux_cores.a ]; then
+        if [ ! -f "$libs/libmkdemux.a" ] || [ ! -f "$libs/libmkdemux_cores.a" ]; then
             return
         fi
         set -- ${CC:-cc}
@@ -144,8 +170,8 @@ share() {
         }
         make_shared
     fi
-    $act 755 "${work-}/libmkdemux.so.0" lib/libmkdemux.so.0
-    $act 644 "${work-}/mkdemux-shared.pc" lib/pkgconfig/mkdemux-shared.pc
+    $act 755 "$work/libmkdemux.so.0" lib/libmkdemux.so.0
+    $act 644 "$work/mkdemux-shared.pc" lib/pkgconfig/mkdemux-shared.pc
     link=$root$prefix/lib/libmkdemux.so
     if [ $act = put ]; then
         [ -h "$link" ] || [ ! -d "$link" ] || refuse "can't write $link: it is a folder"
@@ -158,12 +184,13 @@ share() {
     fi
 }
 
+work=$(mktemp -d) || exit 1
+trap 'rm -rf "$work"' EXIT
 [ $act = take ] || find_program
 $act 755 "${program-}" bin/mkdemux
 each_of share '*mkdemux*'
 each_of include '*.h'
-each_of lib '*.a'
-each_of lib '*.pc'
+put_libraries
 share
 for page in README.md CHANGELOG.md bench/README.md rows/README.md c/live.c c/pcapgrep.c; do
     $act 644 "../$page" "share/doc/mkdemux/$page"
@@ -181,5 +208,5 @@ case $prefix in
 *) say "for zsh, before compinit in ~/.zshrc: fpath=(\"$prefix/share/zsh/site-functions\" \$fpath)" ;;
 esac
 for name in mkdemux mkdemux_cores; do
-    [ -f "lib/lib$name.a" ] || say "there is no lib$name.a in dist/; docs/c-library.md says how to build it, with the Rattle kit"
+    [ -f "$libs/lib$name.a" ] || say "there is no lib$name.a in dist/$libs; docs/c-library.md says how to build it, with the Rattle kit"
 done
