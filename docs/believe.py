@@ -171,15 +171,22 @@ TRUSTED = """\
 - **The C in the program**: of the kit `libos_c.a`, 19 functions for arguments, files, processes and threads, and
   `liblibc_c.a`, three that call `malloc`, `realloc` and `free`; and the C library that they call. The C libraries of
   `dist/lib` have the latter three; for C also `c/mkdemux.h` and `c/mkdemux_cores.h`, the C compiler and binutils.
-- **`dist/` and the launcher `./mkdemux`**, until `./test` builds the program again and compares each byte: before that
-  only a digest of the sources and of the kit's version says that `dist/mkdemux` is theirs.
+- **The C for aarch64**, which the kit doesn't have: `c/heap.c` has those three functions, `c/aarch64/program.c` what the
+  program takes of the others, its first instructions, three atomic steps and a division of 128 bits, and
+  `c/aarch64/libc.map` the names of the C library's functions. The archives for kernels have `c/heap.c`, too, and are
+  compiled by `c/kernel-clang`, which tells LLVM not to use some registers. The tests of both processors run over these.
+- **`dist/` and the launcher `./mkdemux`**, until `./test` builds the programs again and compares each byte: before that
+  only a digest of the sources and of the kit's version says that they are theirs.
+- **What one run kept for itself**: the C libraries are proved for aarch64, and for kernels, over what the same run of
+  `./libmkdemux` had just proved for x86-64, so the prover's last line ends in `incremental=trusted`.
 - **The scripts of the gate**: `./test` and what it calls in `edits/`, `dist/`, `examples/`, `rows/` and `c/`; and
   `docs/believe.py` with `docs/cited.py`: a definition that these miss is missing here. Three of their counts are
   compared with counts by hand.
 - **What `crates/mkdemux` does around its one call of `perform`**, and that its devices record what they did:
   [proved.md](proved.md) has what is only tested, and what is neither.
 - **The system and the processor**: that files, pipes, threads and atomic instructions do what the C library and LLVM
-  assume of them."""
+  assume of them, on x86-64 and on aarch64, which orders memory less: [which instructions these
+  are](proved.md#atomic-steps)."""
 
 
 def linked(file):
