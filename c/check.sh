@@ -372,6 +372,14 @@ try_stack() {
     fi
 }
 
+# On aarch64 the atomic steps of cores are those of docs/proved.md: loads that wait for all stores of this kind before them, and no fence.
+orders_memory() {
+    for archive in "$libs" "$folder/lib/kernel/aarch64"; do
+        "${tools}objdump" -d --no-show-raw-insn "$archive/libmkdemux_cores.a" > "$made/code" && grep -qw ldar "$made/code" &&
+            grep -qw stlr "$made/code" && ! grep -wE 'ldaprb?|ldapur|dmb' "$made/code" || return 1
+    done
+}
+
 # A program that has no C library, over the archives for kernels.
 runs_as_kernel() {
     $cc -std=gnu11 -Wall -Wextra -Werror -O2 -ffreestanding -nostdlib -static -fno-pic -mgeneral-regs-only -fno-stack-protector \
@@ -382,6 +390,7 @@ runs_as_kernel() {
 try_kernel() {
     if [ -f "$folder/lib/kernel/$processor/libmkdemux.a" ] && [ -f "$folder/lib/kernel/$processor/libmkdemux_cores.a" ]; then
         try "without a C library, on a stack of 8 KB" runs_as_kernel
+        [ "$processor" != aarch64 ] || try "the atomic steps of cores" orders_memory
     else
         skip "without a C library" "$folder/lib/kernel/$processor hasn't both archives"
     fi
