@@ -447,10 +447,10 @@ try_aarch64() {
     mkdir -p "$made"
     if ! command -v "${cc%% *}" > /dev/null; then
         skip "all of it" "no compiler ${cc%% *}"
-    elif ! command -v qemu-aarch64-static > /dev/null; then
-        skip "all of it" "no qemu-aarch64-static"
+    elif ! lacking=$("$run" 2>&1); then
+        skip "all of it" "$lacking"
     elif ! links '' || ! $run "$made/try"; then
-        skip "all of it" "$cc makes no program that runs: no C library"
+        skip "all of it" "$cc makes no program that runs"
     else
         try_processor
         echo "note: an emulator on x86-64 doesn't show that aarch64 orders memory less: docs/proved.md has the instructions"

@@ -209,8 +209,10 @@ fi
 arm_cc=${ARM_CC:-aarch64-linux-gnu-gcc}
 if [ "$(uname -sm)" != "Linux x86_64" ]; then
     echo "skipped: a package for aarch64: this machine isn't x86-64 Linux"
-elif ! command -v "$arm_cc" > /dev/null || ! command -v qemu-aarch64-static > /dev/null || ! command -v pkg-config > /dev/null; then
-    echo "skipped: a package for aarch64: there is no $arm_cc, qemu-aarch64-static or pkg-config"
+elif ! lacking=$("$top/c/aarch64/run" 2>&1); then
+    echo "skipped: a package for aarch64: $lacking"
+elif ! command -v "$arm_cc" > /dev/null || ! command -v pkg-config > /dev/null; then
+    echo "skipped: a package for aarch64: there is no $arm_cc, or no pkg-config"
 elif [ ! -f "$top/dist/mkdemux-aarch64" ] || [ ! -f "$top/dist/lib/aarch64-linux-gnu/libmkdemux.a" ] ||
     [ ! -f "$top/dist/lib/aarch64-linux-gnu/libmkdemux_cores.a" ]; then
     echo "skipped: a package for aarch64: dist/ hasn't all of it"

@@ -28,8 +28,7 @@ count() {
 
 [ "$(uname -sm)" = "Linux x86_64" ] || skip "this machine isn't x86-64 Linux"
 [ -f "$program" ] || skip "there is no $program"
-command -v qemu-aarch64-static > /dev/null || skip "there is no qemu-aarch64-static"
-[ -f /usr/aarch64-linux-gnu/lib/ld-linux-aarch64.so.1 ] || skip "there is no C library in /usr/aarch64-linux-gnu"
+lacking=$(c/aarch64/run 2>&1) || skip "$lacking"
 made=$(mktemp -d) || exit 2
 trap 'rm -rf "$made"' EXIT
 mkdir "$made/copy" && tar -cf - --exclude=./.git --exclude='./crates/*/out' . | tar -xf - -C "$made/copy" || exit 2
