@@ -1,6 +1,6 @@
 -- Numbers of packets, and what is calculated from them. A number has no value where the packet lacks a byte of it, or where it is
 -- divided by 0.
-use Rattle.std.specs.Prelude.{ℕ, ◌+◌, ◌-◌, ◌*◌, ◌%◌, ◌^◌, ◌==◌, Bool, nat_le, if◌then◌else◌, List, [], ◌∷◌, ◌++◌, length, take, drop, fold, slice_get, Option, Some, None, option_map, option_and_then}
+use Rattle.std.specs.Prelude.{ℕ, ◌+◌, ◌-◌, ◌*◌, ◌%◌, ◌^◌, ◌==◌, nat_le, if◌then◌else◌, List, [], ◌∷◌, ◌++◌, length, take, drop, fold, slice_get, Option, Some, None, option_map, option_and_then}
 use Rattle.bpf_insn.specs.declared.form.Size.{Size}
 use Rattle.bpf_insn.specs.declared.form.Size.TheVariants.{Byte}
 use Rattle.bpf_insn.specs.declared.form.AluOp.{AluOp}

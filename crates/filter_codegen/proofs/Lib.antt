@@ -1,0 +1,10 @@
+pub mod Runs
+pub mod Steps
+pub mod Growth
+pub mod Shape
+pub mod Places
+pub mod Tasking
+pub mod Emitting
+pub mod Planning
+pub mod Lowering
+pub mod Building

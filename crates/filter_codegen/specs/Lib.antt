@@ -1,0 +1,10 @@
+pub mod Drafts
+pub mod Reaches
+pub mod Graphs
+pub mod Tasks
+pub mod Built
+pub mod Held
+pub mod Plans
+pub mod Emits
+pub mod Lowered
+pub mod Decides
