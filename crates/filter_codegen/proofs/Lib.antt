@@ -8,3 +8,5 @@ pub mod Emitting
 pub mod Planning
 pub mod Lowering
 pub mod Building
+pub mod Shortening
+pub mod Implying

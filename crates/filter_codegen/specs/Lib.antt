@@ -8,3 +8,5 @@ pub mod Plans
 pub mod Emits
 pub mod Lowered
 pub mod Decides
+pub mod Known
+pub mod Shortened

@@ -10,7 +10,7 @@ ghost use Rattle.filter_codegen.specs.Decides.{Decides, RefusesCond};
 use crate::builder::build;
 use crate::fault::CompileFault;
 use crate::graph::Graph;
-use crate::lower::lower;
+use crate::shorten::lower_short;
 use bpf_insn::Insn;
 use filter_cond::Cond;
 use filter_verify::{Verified, verify};
@@ -24,7 +24,7 @@ fn program(alloc: Global, cond: &Cond, accept: u32) -> Result<Vec<Insn>, Compile
 {
     let mut graph = Graph::new(alloc)?;
     let root = build(alloc, &mut graph, &cond.parts)?;
-    let draft = lower(alloc, &graph, root, accept)?;
+    let draft = lower_short(alloc, &graph, root, accept)?;
     Ok(draft.finish())
 }
 

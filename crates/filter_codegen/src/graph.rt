@@ -56,7 +56,7 @@ fn same_size(a: Size, b: Size) -> bool
     a == b
 }
 
-fn same_test(a: Test, b: Test) -> bool
+pub fn same_test(a: Test, b: Test) -> bool
     ensures { IsTrue result → a ≡ b }
 {
     a == b
