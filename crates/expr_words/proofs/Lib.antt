@@ -1,0 +1,4 @@
+pub mod NumberLemmas
+pub mod AddressLemmas
+pub mod ScanLemmas
+pub mod TokenLemmas
