@@ -370,8 +370,8 @@ MKDEMUX_CALL uint32_t mkdemux_receive_burst(mkdemux_core *core, const struct mkd
  * were written; if that is fewer than there is room for, the list is at its end.
  * OK, or CLOSED: `*count` is 0.
  * Proved: the rows are exactly the first ones that are listed from that id on, as many as there is room for, and
- * the rest of the room is as it was. Not proved: a list of filters, and mkdemux_filter_code, take time for each filter
- * of a lower id, so take a large room; a list of capabilities doesn't. */
+ * the rest of the room is as it was. Not proved: the first row, and the filter of mkdemux_filter_code, is found by a
+ * search, so a list takes the time of the rows that it gives. */
 
 /* A filter that is listed. Its capability may be gone; then it gets no packet. */
 struct mkdemux_filter_row {
