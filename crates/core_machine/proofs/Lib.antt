@@ -29,6 +29,6 @@ pub mod ComingUp
 pub mod BootedMachines
 pub mod Tasks
 pub mod Steps
-pub mod Looking
+pub mod Looked
 pub mod Doing
 pub mod Running

@@ -41,7 +41,7 @@ use Rattle.world_model.specs.Committed.{log_of}
 use Rattle.core_machine.proofs.Along.{looked_same}
 use Rattle.core_loop.specs.Answering.{own_decision, is_own, decisions_from}
 use Rattle.core_machine.specs.Rounds.{CoreRests, AreAtRest, HasAllDecided, AreSeen}
-use Rattle.core_machine.proofs.Looking.{driven_looked}
+use Rattle.core_machine.proofs.Looked.{driven_looked}
 use Rattle.headline.proofs.Ending.{idle_at}
 use Rattle.headline.specs.Headline.{begun_in}
 use Rattle.headline.specs.Shown.{replicas_of_cores}

@@ -5,13 +5,13 @@ use Rattle.core_machine.specs.declared.step.CoreStep.{CoreStep}
 use Rattle.core_machine.proofs.Machines.{machine_ran}
 use Rattle.core_machine.proofs.Doing.{done_more}
 use Rattle.core_machine.proofs.Steps.{driven_more, driven_same, placed}
-use Rattle.core_machine.proofs.Looking.{driven_looked}
+use Rattle.core_machine.proofs.Looked.{driven_looked}
 use Rattle.std.proofs.lemmas.List.Elements.{All-append}
 use Rattle.core_machine.specs.Machines.{RingCore}
 use Rattle.core_machine.specs.Conclusions.{AreRunning, Conclude}
 use Rattle.core_machine.specs.declared.step.StepOutcome.{StepOutcome}
 use Rattle.core_machine.specs.Driving.{IsRunning}
-use Rattle.core_machine.proofs.Looking.{ran_before}
+use Rattle.core_machine.proofs.Looked.{ran_before}
 use Rattle.core_machine.proofs.driving.drive.Goals as goal
 
 one_running : (o : StepOutcome) → IsRunning o → All IsRunning (o ∷ [])

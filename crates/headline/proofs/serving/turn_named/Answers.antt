@@ -4,7 +4,7 @@ use Rattle.core_machine.specs.Machines.{RingCore}
 use Rattle.core_machine.proofs.Machines.{machine_ran}
 use Rattle.core_machine.specs.declared.step.StepOutcome.TheVariants.{Turned}
 use Rattle.core_machine.proofs.Steps.{driven_same}
-use Rattle.core_machine.proofs.Looking.{driven_looked, ran_before}
+use Rattle.core_machine.proofs.Looked.{driven_looked, ran_before}
 use Rattle.core_machine.proofs.Running.{turned_running, step_running}
 use Rattle.core_machine.specs.Naming.{names}
 use Rattle.core_machine.proofs.Answering.{Answered}
