@@ -466,9 +466,7 @@ case ${1-} in
     ;;
 *)
     folder=$PWD/out
-    for target in x86_64 aarch64 kernel-x86_64 kernel-aarch64; do
-        ../libmkdemux --target $target "$folder" && ../libmkdemux --target $target --cores "$folder" || exit 2
-    done
+    ../libmkdemux --target all "$folder" && ../libmkdemux --target all --cores "$folder" || exit 2
     ;;
 esac
 headers=-I$folder/include

@@ -12,11 +12,11 @@ struct given {
     void *at;
 };
 
-static char none;
+static const char none;
 
 static struct given given(void *memory)
 {
-    struct given answer = {memory != 0, memory ? memory : &none};
+    struct given answer = {memory != 0, memory ? memory : (void *)&none};
     return answer;
 }
 

@@ -39,9 +39,7 @@ build_libraries() {
         ./libmkdemux --over "$over" dist
         return
     fi
-    for target in x86_64 kernel-x86_64 aarch64 kernel-aarch64; do
-        ./libmkdemux --target $target dist && ./libmkdemux --target $target --cores dist || return 1
-    done
+    ./libmkdemux --target all dist && ./libmkdemux --target all --cores dist
 }
 
 # Both programs.
