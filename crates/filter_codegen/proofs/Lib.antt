@@ -9,4 +9,3 @@ pub mod Planning
 pub mod Lowering
 pub mod Building
 pub mod Shortening
-pub mod Implying

@@ -1,9 +1,9 @@
 //! What one fact says of other tests.
 
-ghost use Rattle.std.specs.Prelude.{true, false, ◌≡◌, None, Some, IfSome, IsTrue};
+ghost use Rattle.std.specs.Prelude.{true, false, ◌≡◌, ℕ, nat_le, None, Some, IfSome, IsTrue};
 ghost use Rattle.bpf_insn.specs.declared.form.Test.TheVariants.{Equal};
 ghost use Rattle.bpf_insn.specs.Machine.{Packet};
-ghost use Rattle.filter_cond.specs.Means.{tested, passes};
+ghost use Rattle.filter_cond.specs.Means.{masked, passes, tested};
 ghost use Rattle.filter_codegen.specs.Known.{comes_out};
 
 use crate::graph::{same_check, same_load, same_mask, same_test};
@@ -58,6 +58,50 @@ fn excludes(a: Check, b: Check) -> bool
         && a.value != b.value
 }
 
+/// The least number of which a test of order is true.
+fn least(check: Check) -> Option<u64>
+    ensures { IfSome result (λ low. (value : ℕ) → passes check value ≡ nat_le low (masked check.mask value)) }
+{
+    let value = check.value as u64;
+    match check.test {
+        Test::Greater => Some(value + 1),
+        Test::GreaterOrEqual => Some(value),
+        _ => None,
+    }
+}
+
+/// How a test of the same bits must come out, where they are below this number, or at least it.
+fn implied_by_order(check: Check, low: u64, above: bool) -> Option<bool>
+    ensures { IfSome result (λ holds. (value : ℕ) → nat_le low (masked check.mask value) ≡ above → passes check value ≡ holds) }
+{
+    if let Some(other) = least(check) {
+        if above && low >= other {
+            return Some(true);
+        }
+        if !above && low <= other {
+            return Some(false);
+        }
+        return None;
+    }
+    let value = check.value as u64;
+    if same_test(check.test, Test::Equal) && above == (value < low) {
+        return Some(false);
+    }
+    None
+}
+
+/// How a test of the same number must come out, where a test of order came out so.
+fn implied_range(fact: Fact, check: Check) -> Option<bool>
+    requires { fact.check.load ≡ check.load }
+    ensures { IfSome result (λ holds. (packet : Packet) → comes_out (tested fact.check packet) fact.holds ≡ true → tested check packet ≡ Some holds) }
+{
+    if !same_mask(fact.check.mask, check.mask) {
+        return None;
+    }
+    let low = least(fact.check)?;
+    implied_by_order(check, low, fact.holds)
+}
+
 /// How a test must come out where a fact holds, if the fact says it.
 pub fn implied(fact: Fact, check: Check) -> Option<bool>
     ensures { IfSome result (λ holds. (packet : Packet) → comes_out (tested fact.check packet) fact.holds ≡ true → tested check packet ≡ Some holds) }
@@ -74,5 +118,5 @@ pub fn implied(fact: Fact, check: Check) -> Option<bool>
     if fact.holds && excludes(fact.check, check) {
         return Some(false);
     }
-    None
+    implied_range(fact, check)
 }

@@ -203,10 +203,30 @@ fn map_place(
         return Ok(true);
     };
     let node = graph.get(place);
-    let Some(pass) = target(graph, facts, routes, places, route.head, route.passed, node.check, true, node.pass) else {
+    let Some(pass) = target(
+        graph,
+        facts,
+        routes,
+        places,
+        route.head,
+        route.passed,
+        node.check,
+        true,
+        node.pass,
+    ) else {
         return Ok(false);
     };
-    let Some(fail) = target(graph, facts, routes, places, route.head, route.failed, node.check, false, node.fail) else {
+    let Some(fail) = target(
+        graph,
+        facts,
+        routes,
+        places,
+        route.head,
+        route.failed,
+        node.check,
+        false,
+        node.fail,
+    ) else {
         return Ok(false);
     };
     let at = new.add(Node {

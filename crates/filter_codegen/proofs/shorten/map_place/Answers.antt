@@ -1,4 +1,4 @@
-use Rattle.std.proofs.Common.{◌≡◌, ◌+◌, ◌<◌, length, true, false, sym, subst, arith}
+use Rattle.std.proofs.Common.{◌+◌, ◌<◌, length, true, false, sym, subst, arith}
 use Rattle.filter_codegen.specs.Shortened.{IsMapped, Targets}
 use Rattle.filter_codegen.proofs.Shortening.{mapped_some, read_route}
 use Rattle.filter_codegen.proofs.shorten.map_place.Goals as goal

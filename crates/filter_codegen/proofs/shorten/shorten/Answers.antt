@@ -1,4 +1,4 @@
-use Rattle.std.proofs.Common.{◌≡◌, ◌+◌, ◌<◌, length, sym, subst, ◌∙◌, arith}
+use Rattle.std.proofs.Common.{◌<◌, length, sym, subst, ◌∙◌, arith}
 use Rattle.filter_codegen.specs.Shortened.{Shortens}
 use Rattle.filter_codegen.proofs.Lowering.{read}
 use Rattle.filter_codegen.proofs.Shortening.{mapped_two, shortens, read_route}

@@ -1,4 +1,4 @@
-use Rattle.std.proofs.Common.{◌≡◌, ◌<◌, ◌≤◌, ◌+◌, length, arith}
+use Rattle.std.proofs.Common.{arith}
 use Rattle.filter_codegen.proofs.Shortening.{got_known}
 use Rattle.filter_codegen.proofs.facts.Facts.get.Goals as goal
 
