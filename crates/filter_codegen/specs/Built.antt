@@ -1,5 +1,4 @@
 -- Conditions as graphs of tests.
--- No public clause cites these, but for HasComparison.
 use Rattle.std.specs.Prelude.{◌≡◌, ℕ, ◌+◌, ◌<◌, ◌≤◌, List, length, reverse, map, take, drop, Option, Some, slice_get}
 use Rattle.bpf_insn.specs.declared.insn.TheConstants.{MAX_INSNS}
 use Rattle.bpf_insn.specs.Machine.{Packet}

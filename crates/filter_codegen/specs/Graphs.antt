@@ -1,5 +1,4 @@
 -- Graphs of tests. Place 0 rejects a packet and place 1 accepts it; the others are tests, each of which leads to earlier places.
--- No public clause cites these.
 use Rattle.std.specs.Prelude.{ℕ, ◌+◌, ◌==◌, ◌<◌, if◌then◌else◌, Bool, List, [], ◌∷◌, ◌++◌, length, Option, Some, None, ◌≡◌, ◌≤◌, Bool, true, false}
 use Rattle.bpf_insn.specs.Machine.{Packet}
 use Rattle.filter_codegen.specs.declared.graph.Node.{Node}
