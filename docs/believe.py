@@ -87,6 +87,8 @@ ROWS = {
     "filter_predecode": 330,
     "filter_group": 225,
     "filter_asm": 530,
+    "filter_cond": 330,
+    "expr_words": 700,
     "mkdemux_c": 260,
     "pcap_reader": 360,
     "capture_reader": 530,

@@ -1,10 +1,9 @@
 -- What a run of bytes is.
-use Rattle.std.proofs.Common.{◌≢◌, ◌⊎◌, inl, inr, subst, ◌≡◌, ℕ, zero, suc, ◌+◌, ◌<◌, ◌≤◌, Bool, true, false, cond, List, [], ◌∷◌, take, None, refl, ap, ◌∙◌, arith}
+use Rattle.std.proofs.Common.{sym, Some, ◌≢◌, ◌⊎◌, inl, inr, subst, ◌≡◌, ℕ, zero, suc, ◌+◌, ◌<◌, ◌≤◌, Bool, true, false, cond, List, [], ◌∷◌, take, None, refl, ap, ◌∙◌, arith}
 use Rattle.std.specs.List.{prefix_len}
 use Rattle.std.specs.Net.Grammar.{IsIpv6Text}
 use Rattle.std.specs.declared.net.ipv6_addr.Ipv6Addr.{Ipv6Addr}
 use Rattle.expr_words.specs.declared.word.Word.{Word}
-use Rattle.expr_words.specs.declared.word.Word.TheVariants as word
 use Rattle.expr_words.specs.Address.{mac}
 use Rattle.std.specs.Prelude.{Result, Ok}
 use Rattle.expr_words.specs.declared.fault.WordFaultKind.{WordFaultKind}
@@ -25,15 +24,8 @@ run_capped p (suc n) [] = ((λ low. refl), (λ high. absurd (omega arith)))
 run_capped p (suc n) (x ∷ xs) = capped_by (p x) n (prefix_len p (take n xs)) (prefix_len p xs) (run_capped p n xs)
 
 no_address_of : (text : List ℕ) → mac 58 text ≡ None → ((a : Ipv6Addr) → IsIpv6Text text a → ⊥) → (w : Word) → IsAddress text w → ⊥
-no_address_of text no_mac no_v6 (word.Mac n) is = cc
-no_address_of text no_mac no_v6 (word.V6 n) is = no_v6 is.0 is.1
-no_address_of text no_mac no_v6 (word.Keyword k) is = is
-no_address_of text no_mac no_v6 (word.Protocol p n) is = is
-no_address_of text no_mac no_v6 (word.Sign s) is = is
-no_address_of text no_mac no_v6 (word.Number n) is = is
-no_address_of text no_mac no_v6 (word.V4 a) is = is
-no_address_of text no_mac no_v6 (word.Name n) is = is
-no_address_of text no_mac no_v6 (word.Refused r) is = is
+no_address_of text no_mac no_v6 w (inl x) = let both : Some x.0 ≡ None = sym x.2 ∙ no_mac in absurd (cc)
+no_address_of text no_mac no_v6 w (inr y) = no_v6 y.0 y.3
 
 -- a text that is neither is no address
 pub no_address : (text : List ℕ) → mac 58 text ≡ None → ((a : Ipv6Addr) → IsIpv6Text text a → ⊥) → NoAddress text

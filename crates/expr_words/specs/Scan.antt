@@ -24,17 +24,11 @@ name_tail bytes = suffix_len (λ b. not (ends_name b)) bytes
 abbrev pub name_width : List ℕ → ℕ
 name_width bytes = 1 + prefix_len continues_name (drop 1 bytes) - name_tail (take_while continues_name (drop 1 bytes))
 
--- the text is six octets joined by `:`, or an IPv6 address (RFC 4291, 2.2)
+-- the text is six octets joined by `:`, or else an IPv6 address (RFC 4291, 2.2)
 abbrev pub IsAddress : List ℕ → Word → Type 0
-IsAddress text (word.Mac n) = mac 58 text ≡ Some n
-IsAddress text (word.V6 n) = (a : Ipv6Addr) × IsIpv6Text text a × (n ≡ ipv6_bits a)
-IsAddress text (word.Keyword k) = ⊥
-IsAddress text (word.Protocol p n) = ⊥
-IsAddress text (word.Sign s) = ⊥
-IsAddress text (word.Number n) = ⊥
-IsAddress text (word.V4 a) = ⊥
-IsAddress text (word.Name n) = ⊥
-IsAddress text (word.Refused r) = ⊥
+IsAddress text w =
+    ((n : ℕ) × (w ≡ word.Mac n) × (mac 58 text ≡ Some n))
+    ⊎ ((a : Ipv6Addr) × (w ≡ word.V6 (ipv6_bits a)) × (mac 58 text ≡ None) × IsIpv6Text text a)
 
 abbrev pub NoAddress : List ℕ → Type 0
 NoAddress text = (w : Word) → IsAddress text w → ⊥

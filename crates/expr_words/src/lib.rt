@@ -7,6 +7,7 @@
 mod address;
 mod bytes;
 mod fault;
+mod laws;
 mod names;
 mod number;
 mod protocol;
@@ -17,6 +18,7 @@ mod tokenizer;
 mod word;
 
 pub use fault::{WordFault, WordFaultKind};
+pub use laws::tokens_are_unique;
 pub use protocol::Protocol;
 pub use token::{MAX_TOKENS, Token};
 pub use tokenizer::tokens;

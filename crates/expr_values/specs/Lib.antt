@@ -1,0 +1,4 @@
+pub mod Qualifiers
+pub mod Marks
+pub mod Masks
+pub mod Values
