@@ -7,7 +7,8 @@ use bpf_insn::{AluOp, Size};
 pub enum Load {
     /// At a byte of the packet.
     At { size: Size, at: u32 },
-    /// So many bytes past the end of the IPv4 header that begins at byte `header`.
+    /// At byte `at` plus the length in bytes of the IPv4 header that begins at byte `header`: what follows a header at byte 14
+    /// begins at 14.
     Past { size: Size, header: u32, at: u32 },
     /// The packet's length in bytes before any of it was cut off.
     Length,

@@ -9,13 +9,12 @@ use std::test::Fail;
 
 #[test]
 fn words_with_a_fault(rt: HostRuntime) -> Result<(), Fail> {
-    let texts: [(&str, WordFaultKind, usize, usize); 6] = [
+    let texts: [(&str, WordFaultKind, usize, usize); 5] = [
         ("host 10.0.0.256", WordFaultKind::Address, 6, 10),
         ("tcp port 080", WordFaultKind::Octal, 10, 3),
         ("0x100000000 = 5", WordFaultKind::Large, 1, 11),
         ("tcp @ udp", WordFaultKind::Character, 5, 1),
         ("\ttcp \\-", WordFaultKind::Character, 6, 1),
-        ("host 1.2.3.4.5", WordFaultKind::Address, 6, 9),
     ];
     for (text, kind, column, width) in texts {
         let found = tokens(rt.alloc(), text.as_bytes()).err();
@@ -65,7 +64,8 @@ const NET: Word = Word::V4(V4 {
 
 #[test]
 fn words_of_each_kind(rt: HostRuntime) -> Result<(), Fail> {
-    let text = "tcp[tcpflags]&0x12!=0&&port http or 20-21 net 10.1 ::1:2 2001:DB8::8:800:200C:417A 0:1:2:3:4:ff 00-01-02-03-04-05";
+    let text =
+        "tcp[tcpflags]&0x12!=0&&port http or 20-21 net 10.1 ::1:2 2001:DB8::8:800:200C:417A 0:1:2:3:4:ff 00-01-02-03-04-05";
     let words = [
         TCP,
         Word::Sign(Sign::OpenBracket),
