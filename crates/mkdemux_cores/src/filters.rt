@@ -1,6 +1,6 @@
 //! The filters of a table, as rows.
 
-ghost use Rattle.std.specs.Prelude.{◌≡◌, ◌≤◌, length, min};
+ghost use Rattle.std.specs.Prelude.{◌≡◌, length, min};
 ghost use Rattle.table_replica.specs.Lent.{shown_filter};
 ghost use Rattle.mkdemux_cores.specs.Rows.{filter_row, filter_rows, laid};
 
@@ -41,7 +41,6 @@ pub fn list_filters(replica: &Replica, from: u32, room: &mut [FilterRow]) -> usi
 
 /// The row of a filter.
 fn row_of(filter: Filter<'_>) -> FilterRow
-    requires { length filter.program.now ≤ 4096 }
     ensures { result ≡ filter_row (shown_filter filter.entry) }
 {
     FilterRow {
