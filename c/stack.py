@@ -14,8 +14,8 @@ import sys
 
 # Bytes that a call may take on x86-64 Linux; all that aren't named take at most 2,048. Elsewhere it may be a quarter more.
 MOST = {
-    "mkdemux_boot_cores": 3392,
-    "mkdemux_boot_limits_cores": 3392,
+    "mkdemux_boot_cores": 3456,
+    "mkdemux_boot_limits_cores": 3520,
     "mkdemux_turn": 3456,
     "mkdemux_settle": 3392,
 }
