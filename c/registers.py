@@ -16,7 +16,7 @@ HEAD = re.compile(r"^[0-9a-f]+ <(.+)>:$")
 NO_TARGET = "calls where no pointer may lead"
 # An array's items before an index. In a function that takes a frame they lie in it.
 INDEXED = re.compile(r"-0x[0-9a-f]+\(%rsp,")
-FRAME = re.compile(r"^sub\S* .*,%rsp$")
+FRAME = re.compile(r"^sub\S* .*, ?%rsp$")
 KINDS = {
     "x86_64": {
         "vector registers": re.compile(r"%(?:[xyz]mm|mm|k)\d"),
