@@ -1,6 +1,6 @@
 //! Trees by index.
 
-ghost use Rattle.std.specs.Prelude.{◌≡◌, ℕ, ◌+◌, ◌<◌, ◌++◌, ◌∷◌, [], length, IfOk, OnErr};
+ghost use Rattle.std.specs.Prelude.{◌≡◌, ℕ, ◌+◌, ◌<◌, ◌++◌, ◌∷◌, [], length, IfOk, OnOk, OnErr};
 ghost use Rattle.expr_tree.specs.Expr.{expr_at, value_at, expr_by, value_by};
 
 use crate::calc::{Calc, Relation};
@@ -49,9 +49,11 @@ impl Tree {
     pub fn push(&mut self, kind: Kind, column: usize) -> Result<usize, AllocFailed<Node>>
         ensures place { IfOk result (λ place. place ≡ length self.old.nodes.items) }
         ensures longer { IfOk result (λ place. length self.new.nodes.items ≡ length self.old.nodes.items + 1) }
+        ensures nodes { OnOk result (self.new.nodes.items ≡ self.old.nodes.items ++ record { kind = kind; column = column } ∷ []) }
         ensures expr { IfOk result (λ place. expr_at self.new.nodes.items place ≡ expr_by (value_at self.old.nodes.items) (expr_at self.old.nodes.items) kind) }
         ensures value { IfOk result (λ place. value_at self.new.nodes.items place ≡ value_by (value_at self.old.nodes.items) kind) }
         ensures exprs { IfOk result (λ _. (p : ℕ) → p < length self.old.nodes.items → expr_at self.new.nodes.items p ≡ expr_at self.old.nodes.items p) }
+        ensures unchanged { OnErr result (self.new.nodes.items ≡ self.old.nodes.items) }
         ensures values { IfOk result (λ _. (p : ℕ) → p < length self.old.nodes.items → value_at self.new.nodes.items p ≡ value_at self.old.nodes.items p) }
     {
         let place = self.nodes.len();
