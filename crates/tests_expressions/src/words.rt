@@ -1,5 +1,5 @@
-//! Words of filter expressions. The texts with faults are those that libpcap 1.10.3 was given beside this compiler; numbers
-//! and addresses are examples of pcap-filter(7), RFC 4291 and IANA's registries.
+//! Words of filter expressions. libpcap 1.10.3 refuses each of the texts with faults; numbers and addresses are examples of
+//! pcap-filter(7), RFC 4291 and IANA's registries.
 
 use expr_words::{
     Keyword, Name, NamedPort, Numbers, Protocol, Sign, Span, Transports, V4, Word, WordFaultKind,
@@ -9,12 +9,13 @@ use std::test::Fail;
 
 #[test]
 fn words_with_a_fault(rt: HostRuntime) -> Result<(), Fail> {
-    let texts: [(&str, WordFaultKind, usize, usize); 5] = [
+    let texts: [(&str, WordFaultKind, usize, usize); 6] = [
         ("host 10.0.0.256", WordFaultKind::Address, 6, 10),
         ("tcp port 080", WordFaultKind::Octal, 10, 3),
         ("0x100000000 = 5", WordFaultKind::Large, 1, 11),
         ("tcp @ udp", WordFaultKind::Character, 5, 1),
         ("\ttcp \\-", WordFaultKind::Character, 6, 1),
+        ("host 1.2.3.4.5", WordFaultKind::Address, 6, 9),
     ];
     for (text, kind, column, width) in texts {
         let found = tokens(rt.alloc(), text.as_bytes()).err();
