@@ -1,16 +1,18 @@
 -- A text has its tokens and no others.
-use Rattle.std.proofs.Common.{◌≡◌, ℕ, ◌+◌, ◌<◌, ◌≤◌, List, [], ◌∷◌, take, drop, Some, None, inl, inr, refl, sym, ap, ◌∙◌, subst, arith}
-use Rattle.std.specs.Prelude.{Ok, Result}
+use Rattle.std.proofs.Common.{◌≡◌, ℕ, ◌+◌, ◌<◌, ◌≤◌, List, [], ◌∷◌, length, take, drop, Some, None, inl, inr, refl, sym, ap, ◌∙◌, subst, arith}
+use Rattle.std.specs.Prelude.{Ok, Err, Result}
 use Rattle.std.specs.List.{prefix_len, take_while}
 use Rattle.std.proofs.NetLemmas.Theorems.{IsIpv6Text_unique}
 use Rattle.std.specs.Net.Addr.{ipv6_bits}
 use Rattle.expr_words.specs.declared.fault.WordFaultKind.{WordFaultKind}
+use Rattle.expr_words.specs.declared.fault.WordFault.{WordFault}
 use Rattle.expr_words.specs.declared.token.Token.{Token}
+use Rattle.expr_words.specs.declared.token.TheConstants.{MAX_TOKENS}
 use Rattle.expr_words.specs.declared.word.Word.{Word}
 use Rattle.expr_words.specs.declared.word.Word.TheVariants as word
 use Rattle.expr_words.specs.Bytes.{is_in_address}
 use Rattle.expr_words.specs.Scan.{IsAddress, NoAddress, Begins}
-use Rattle.expr_words.specs.Tokens.{Whole, Reads, Spells, unblanked}
+use Rattle.expr_words.specs.Tokens.{Whole, Fault, Reads, Spells, Refuses, unblanked}
 
 address_once : (text : List ℕ) (a b : Word) → IsAddress text a → IsAddress text b → a ≡ b
 address_once text a b (inl x) (inl y) =
@@ -43,6 +45,16 @@ begins_once bytes v w a b (inr x) (inr y) =
     let same : a ≡ b = cc in
     (ap (λ p. p.0) both, same)
 
+-- nor a token where none begins
+begins_or_fails : (bytes : List ℕ) (v w : ℕ) (a : Word) (k : WordFaultKind) → Begins bytes v (Ok a) → Begins bytes w (Err k) → ⊥
+begins_or_fails bytes v w a k (inl x) (inl y) = let apart : ◌≡◌ {A = Result Word WordFaultKind} (Err k) (Ok y.0) = y.1 in absurd (cc)
+begins_or_fails bytes v w a k (inl x) (inr y) = apart bytes v x.0 x.2 x.3 x.4 x.5 y.0
+begins_or_fails bytes v w a k (inr x) (inl y) = let apart : ◌≡◌ {A = Result Word WordFaultKind} (Err k) (Ok y.0) = y.1 in absurd (cc)
+begins_or_fails bytes v w a k (inr x) (inr y) =
+    let both : ◌≡◌ {A = ℕ × Result Word WordFaultKind} (v, Ok a) (w, Err k) = x.1 ∙ sym y.1 in
+    let outcome : ◌≡◌ {A = Result Word WordFaultKind} (Ok a) (Err k) = ap (λ p. p.1) both in
+    absurd (cc)
+
 token_is : (t u : Token) → t.word ≡ u.word → t.column ≡ u.column → t.width ≡ u.width → t ≡ u
 token_is t u word column width =
     let one : t ≡ record { word = u.word; column = t.column; width = t.width } = ap (λ k. record { word = k; column = t.column; width = t.width }) word in
@@ -64,3 +76,22 @@ reads_once (t ∷ ts) (u ∷ us) count column bytes x y =
 
 pub spelled_once : (text : List ℕ) (ts us : List Token) → Spells text ts → Spells text us → ts ≡ us
 spelled_once text ts us x y = reads_once ts us 0 1 text x y
+
+-- a text that has a fault has no tokens, as many as it may have
+reads_or_fails : (ts us : List Token) (count column : ℕ) (bytes : List ℕ) (f : WordFault) → Reads count column ts bytes (Fault f) → Reads count column us bytes Whole → count + length us ≤ MAX_TOKENS → ⊥
+reads_or_fails [] [] count column bytes f x y few = let some = x.1 in omega arith
+reads_or_fails [] (u ∷ us) count column bytes f x y few =
+    elim x.2 as (λ z. ⊥) [
+      | inl fails ↦ begins_or_fails (unblanked bytes) u.width f.width u.word f.kind y.2 fails
+      | inr long ↦ let full = long.0 in omega arith
+    ]
+reads_or_fails (t ∷ ts) [] count column bytes f x y few = let some = x.1 in omega arith
+reads_or_fails (t ∷ ts) (u ∷ us) count column bytes f x y few =
+    let begins = begins_once (unblanked bytes) t.width u.width t.word u.word x.2 y.2 in
+    let same : t ≡ u = token_is t u begins.1 (x.0 ∙ sym y.0) begins.0 in
+    let after : Reads (count + 1) (t.column + t.width) us (drop t.width (unblanked bytes)) Whole =
+    subst (λ k. Reads (count + 1) (k.column + k.width) us (drop k.width (unblanked bytes)) Whole) (sym same) y.3 in
+    reads_or_fails ts us (count + 1) (t.column + t.width) (drop t.width (unblanked bytes)) f x.3 after (omega arith)
+
+pub refused_never : (text : List ℕ) (fault : WordFault) (ts : List Token) → Refuses text fault → Spells text ts → length ts ≤ MAX_TOKENS → ⊥
+refused_never text fault ts x y few = reads_or_fails x.0 ts 0 1 text fault x.2 y (omega arith)

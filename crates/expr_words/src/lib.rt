@@ -18,7 +18,7 @@ mod tokenizer;
 mod word;
 
 pub use fault::{WordFault, WordFaultKind};
-pub use laws::tokens_are_unique;
+pub use laws::{faults_leave_no_tokens, tokens_are_unique};
 pub use protocol::Protocol;
 pub use token::{MAX_TOKENS, Token};
 pub use tokenizer::tokens;
