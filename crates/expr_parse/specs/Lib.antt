@@ -1,0 +1,9 @@
+pub mod Words
+pub mod Operators
+pub mod Brackets
+pub mod CursorViews
+pub mod Readers
+pub mod Calculations
+pub mod Grammar
+pub mod Parsing
+pub mod ParserViews
