@@ -1,7 +1,9 @@
-//! Tests of the words of filter expressions, and of conditions and their programs, by their public calls.
+//! Tests of filter expressions and their words, and of conditions and their programs, by their public calls.
 #![tactic(auto)]
 
 #[cfg(test)]
 mod conditions;
+#[cfg(test)]
+mod exprs;
 #[cfg(test)]
 mod words;
