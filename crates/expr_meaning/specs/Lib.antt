@@ -1,0 +1,7 @@
+pub mod Links
+pub mod Carriages
+pub mod Questions
+pub mod Layers
+pub mod Headers
+pub mod Values
+pub mod Holds

@@ -1,0 +1,12 @@
+//! What filter expressions say of packets, over each link type.
+//!
+//! The definitions stand in `specs/`: `Holds` has the expressions, over `Layers`, `Headers` and `Questions`.
+#![tactic(auto)]
+
+mod carriage;
+mod link;
+mod place;
+
+pub use carriage::{Carriage, carriage_of};
+pub use link::{Link, link_of};
+pub use place::{Layer, Place, start};
