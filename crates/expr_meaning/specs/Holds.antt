@@ -23,10 +23,10 @@ use Rattle.expr_tree.specs.Expr.{Expr, Value, Number, Len, Bytes, Operation, Neg
 use Rattle.expr_meaning.specs.declared.place.Layer.{Layer}
 use Rattle.expr_meaning.specs.declared.place.Layer.TheVariants.{Labels, Session}
 use Rattle.expr_meaning.specs.declared.place.Place.{Place}
-use Rattle.expr_meaning.specs.Questions.{Question, Yes, And, Or, answer, and_then, or_else, byte, half, word, is, at_least, at_most, bits}
+use Rattle.expr_meaning.specs.Questions.{Question, Yes, And, Or, answer, and_then, or_else, byte, half, word, is, either, at_least, at_most, bits}
 use Rattle.expr_meaning.specs.Layers.{over}
 use Rattle.expr_meaning.specs.Values.{compares}
-use Rattle.expr_meaning.specs.Headers.{protocol_at, next_at, carries4, carries6, first_fragment, has, there}
+use Rattle.expr_meaning.specs.Headers.{protocol_at, next_at, carries, carries4, carries6, first_fragment, has, there}
 
 -- a question about an end of the packet, of which the source is said first
 abbrev pub sides : Side → Question → Question → Question
@@ -41,17 +41,25 @@ in_net4 load net = if net.mask == 0 then Yes else if net.mask == 0xffffffff then
 
 -- IPv4's addresses are at bytes 12 and 16 (RFC 791, section 3.1), those of ARP and RARP for IPv4 over Ethernet at bytes 14 and 24 (RFC 826,
 -- "Packet format"; RFC 903)
+abbrev pub end4 : Place → ℕ → ℕ → Net4 → Question
+end4 place number at net = And (over place number) (in_net4 (word (place.payload + at)) net)
+
 abbrev pub ends4 : Place → ℕ → ℕ → ℕ → Side → Net4 → Question
-ends4 place number source destination side net =
-    sides side (And (over place number) (in_net4 (word (place.payload + source)) net)) (And (over place number) (in_net4 (word (place.payload + destination)) net))
+ends4 place number source destination side net = sides side (end4 place number source net) (end4 place number destination net)
+
+abbrev pub all_ends4 : Place → Side → Net4 → Question
+all_ends4 place side net = Or (Or (ends4 place 0x0800 12 16 side net) (ends4 place 0x0806 14 24 side net)) (ends4 place 0x8035 14 24 side net)
 
 -- behind a label only IPv4 is known
-abbrev pub any_ends4 : Layer → Place → Side → Net4 → Question
-any_ends4 Labels place side net = ends4 place 0x0800 12 16 side net
-any_ends4 _ place side net = Or (Or (ends4 place 0x0800 12 16 side net) (ends4 place 0x0806 14 24 side net)) (ends4 place 0x8035 14 24 side net)
+abbrev pub any_ends4_by : Layer → Place → Side → Net4 → Question
+any_ends4_by Labels place side net = ends4 place 0x0800 12 16 side net
+any_ends4_by _ place side net = all_ends4 place side net
+
+abbrev pub any_ends4 : Place → Side → Net4 → Question
+any_ends4 place side net = any_ends4_by place.layer place side net
 
 abbrev pub net4 : Place → Carrier → Side → Net4 → Question
-net4 place carrier.Any side net = any_ends4 place.layer place side net
+net4 place carrier.Any side net = any_ends4 place side net
 net4 place carrier.Ip side net = ends4 place 0x0800 12 16 side net
 net4 place carrier.Arp side net = ends4 place 0x0806 14 24 side net
 net4 place carrier.Rarp side net = ends4 place 0x8035 14 24 side net
@@ -73,8 +81,11 @@ in_net6 at net =
     (in_word (word (at + 12)) (fixed net.bits 96) (net.address % 2 ^ 32))
 
 -- IPv6's addresses are at bytes 8 and 24 (RFC 8200, section 3)
+abbrev pub end6 : Place → ℕ → Net6 → Question
+end6 place at net = And (over place 0x86dd) (in_net6 (place.payload + at) net)
+
 abbrev pub net6 : Place → Side → Net6 → Question
-net6 place side net = sides side (And (over place 0x86dd) (in_net6 (place.payload + 8) net)) (And (over place 0x86dd) (in_net6 (place.payload + 24) net))
+net6 place side net = sides side (end6 place 8 net) (end6 place 24 net)
 
 -- Ethernet's addresses are at bytes 6 and 0 of the frame (IEEE 802.3, section 3.1.1)
 abbrev pub mac_at : ℕ → ℕ → Question
@@ -85,7 +96,7 @@ mac side address = sides side (mac_at 6 address) (mac_at 0 address)
 
 -- TCP 6, UDP 17, SCTP 132
 abbrev pub transports : Load → Transport → Question
-transports load transport.All = Or (Or (is load 6) (is load 17)) (is load 132)
+transports load transport.All = Or (either load 6 17) (is load 132)
 transports load transport.Tcp = is load 6
 transports load transport.Udp = is load 17
 transports load transport.Sctp = is load 132
@@ -93,44 +104,64 @@ transports load transport.Sctp = is load 132
 abbrev pub within : Load → ℕ → ℕ → Question
 within load low high = if low == high then is load low else And (at_least load low) (at_most load high)
 
+abbrev pub ends : Load → Load → Side → ℕ → ℕ → Question
+ends source destination side low high = sides side (within source low high) (within destination low high)
+
 -- ports are at bytes 0 and 2 (RFC 9293, section 3.1; RFC 768; RFC 9260, section 3): in IPv4 only of a first fragment
 abbrev pub ports6 : Place → Transport → Side → ℕ → ℕ → Question
 ports6 place protocol side low high =
-    And (And (over place 0x86dd) (transports (next_at place) protocol))
-    (sides side (within (half (place.payload + 40)) low high) (within (half (place.payload + 42)) low high))
+    And (And (over place 0x86dd) (transports (next_at place) protocol)) (ends (half (place.payload + 40)) (half (place.payload + 42)) side low high)
+
+abbrev pub begins4 : Place → Transport → Question
+begins4 place protocol = And (And (over place 0x0800) (transports (protocol_at place) protocol)) (first_fragment place)
 
 abbrev pub ports4 : Place → Transport → Side → ℕ → ℕ → Question
 ports4 place protocol side low high =
-    And (And (And (over place 0x0800) (transports (protocol_at place) protocol)) (first_fragment place))
-    (sides side (within (Past Half place.payload place.payload) low high) (within (Past Half place.payload (place.payload + 2)) low high))
+    And (begins4 place protocol) (ends (Past Half place.payload place.payload) (Past Half place.payload (place.payload + 2)) side low high)
+
+abbrev pub ports : Place → Transport → Side → ℕ → ℕ → Question
+ports place protocol side low high = Or (ports6 place protocol side low high) (ports4 place protocol side low high)
 
 abbrev pub proto : Place → Header → ℕ → Question
-proto place header.Any number = Or (carries4 place number) (carries6 place number)
+proto place header.Any number = carries place number
 proto place header.Ip number = carries4 place number
 proto place header.Ip6 number = carries6 place number
 proto place header.Ether number = over place number
 
 -- an identifier of 802.1Q, in the low 12 bits (IEEE 802.1Q, section 9.6), behind one of its types or those of 802.1ad and QinQ
 abbrev pub tagged : Place → Question
-tagged place = Or (Or (is (half place.type_at) 0x8100) (is (half place.type_at) 0x88a8)) (is (half place.type_at) 0x9100)
+tagged place = Or (either (half place.type_at) 0x8100 0x88a8) (is (half place.type_at) 0x9100)
 
 abbrev pub vlan : Place → Option ℕ → Question
 vlan place None = tagged place
 vlan place (Some number) = And (tagged place) (bits (half place.payload) 0xfff number)
 
 -- a label in the high 20 bits (RFC 3032, section 2.1), behind another one that isn't the last
-abbrev pub stacked : Layer → Place → Question
-stacked Labels place = bits (byte (place.payload - 2)) 1 0
-stacked _ place = over place 0x8847
+abbrev pub stacked_by : Layer → Place → Question
+stacked_by Labels place = bits (byte (place.payload - 2)) 1 0
+stacked_by _ place = over place 0x8847
+
+abbrev pub stacked : Place → Question
+stacked place = stacked_by place.layer place
 
 abbrev pub mpls : Place → Option ℕ → Question
-mpls place None = stacked place.layer place
-mpls place (Some label) = And (stacked place.layer place) (bits (word place.payload) 0xfffff000 (label * 2 ^ 12 % 2 ^ 32))
+mpls place None = stacked place
+mpls place (Some label) = And (stacked place) (bits (word place.payload) 0xfffff000 (label % 2 ^ 20 * 2 ^ 12))
 
 -- a session's number at byte 2 (RFC 2516, section 4)
 abbrev pub pppoes : Place → Option ℕ → Question
 pppoes place None = over place 0x8864
 pppoes place (Some number) = And (over place 0x8864) (is (half (place.payload + 2)) number)
+
+-- the destination is of no or of all bits (RFC 919, section 7), of class D (RFC 1112, section 4), or of ff00::/8 (RFC 4291, section 2.7)
+abbrev pub ip_broadcast : Place → Question
+ip_broadcast place = And (over place 0x0800) (either (word (place.payload + 16)) 0 0xffffffff)
+
+abbrev pub ip_multicast : Place → Question
+ip_multicast place = And (over place 0x0800) (at_least (byte (place.payload + 16)) 224)
+
+abbrev pub ip6_multicast : Place → Question
+ip6_multicast place = And (over place 0x86dd) (is (byte (place.payload + 24)) 255)
 
 -- what a test asks
 abbrev pub asks : Place → Test → Question
@@ -138,13 +169,13 @@ asks place (test.Is protocol) = has place protocol
 asks place (test.Net4 carrier side net) = net4 place carrier side net
 asks place (test.Net6 written side net) = net6 place side net
 asks place (test.Mac side address) = mac side address
-asks place (test.Ports protocol side low high) = Or (ports6 place protocol side low high) (ports4 place protocol side low high)
+asks place (test.Ports protocol side low high) = ports place protocol side low high
 asks place (test.Proto header number) = proto place header number
 asks place test.EtherBroadcast = mac_at 0 0xffffffffffff
-asks place test.IpBroadcast = And (over place 0x0800) (Or (is (word (place.payload + 16)) 0) (is (word (place.payload + 16)) 0xffffffff))
+asks place test.IpBroadcast = ip_broadcast place
 asks place test.EtherMulticast = bits (byte 0) 1 1
-asks place test.IpMulticast = And (over place 0x0800) (at_least (byte (place.payload + 16)) 224)
-asks place test.Ip6Multicast = And (over place 0x86dd) (is (byte (place.payload + 24)) 255)
+asks place test.IpMulticast = ip_multicast place
+asks place test.Ip6Multicast = ip6_multicast place
 asks place (test.Vlan number) = vlan place number
 asks place (test.Mpls label) = mpls place label
 asks place (test.Pppoes number) = pppoes place number

@@ -43,9 +43,12 @@ half at = At size.Half at
 abbrev pub word : ℕ → Load
 word at = At size.Word at
 
--- the number is this, is above it, is at least it, or is at most it
+-- the number is this, is one of two, is above it, is at least it, or is at most it
 abbrev pub is : Load → ℕ → Question
 is load value = Ask (record { load = load; mask = None; test = Equal; value = value })
+
+abbrev pub either : Load → ℕ → ℕ → Question
+either load first second = Or (is load first) (is load second)
 
 abbrev pub above : Load → ℕ → Question
 above load value = Ask (record { load = load; mask = None; test = Greater; value = value })
