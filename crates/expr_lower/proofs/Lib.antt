@@ -1,0 +1,2 @@
+pub mod Spining
+pub mod Walking

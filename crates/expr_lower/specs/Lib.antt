@@ -1,0 +1,2 @@
+pub mod Spines
+pub mod Walks

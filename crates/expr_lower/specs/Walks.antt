@@ -1,0 +1,35 @@
+-- What is written for an expression.
+use Rattle.std.specs.Prelude.{◌≡◌, ℕ, ◌≤◌, Bool, List, ◌∷◌, length, take, reverse, Option, Some, None}
+use Rattle.bpf_insn.specs.Machine.{Packet}
+use Rattle.filter_cond.specs.declared.cond.Part.{Part}
+use Rattle.filter_cond.specs.Means.{truths_of}
+use Rattle.expr_tree.specs.declared.tree.Node.{Node}
+use Rattle.expr_tree.specs.Expr.{Expr, expr_at}
+use Rattle.expr_meaning.specs.declared.place.Place.{Place}
+use Rattle.expr_meaning.specs.Holds.{holds, after}
+use Rattle.expr_lower.specs.Spines.{joined}
+
+-- the parts that were added find this truth of each packet, and leave the truths before it
+abbrev pub Adds : (Packet → Option Bool) → List Part → List Part → Type 0
+Adds truth old new = (results : List (Option ℕ)) (packet : Packet) → truths_of results packet new ≡ truth packet ∷ truths_of results packet old
+
+-- what is known of a place: none where it depends on the packet
+abbrev pub Fits : Option Place → Place → Type 0
+Fits None place = Unit {0}
+Fits (Some known) place = place ≡ known
+
+-- the parts that were added say what the expression does, at each place that is known so, and this is known of the place after it
+pub record Lowers (e : Expr) (before behind : Option Place) (old new : List Part) : Type 0 where
+  pub says : (place : Place) → Fits before place → Adds (λ packet. holds e packet place) old new
+  pub moves : (place : Place) → Fits before place → Fits behind (after e place)
+
+-- parts were added that make of an expression, whose parts stand at the end, another one
+abbrev pub Joins : (Expr → Expr) → Option Place → Option Place → Option Place → List Part → List Part → Type 0
+Joins made before behind end middle new = (e : Expr) (old : List Part) → Lowers e before behind old middle → Lowers (made e) before end old new
+
+-- so much of an expression is written, on the way up
+pub record IsRising (nodes : List Node) (place : ℕ) (joins : List ℕ) (count : ℕ) (before behind : Option Place) (old new : List Part) : Type 0 where
+  pub within : count ≤ length joins
+  pub e : Expr
+  pub is : expr_at nodes place ≡ joined nodes (reverse (take count joins)) e
+  pub lowers : Lowers e before behind old new

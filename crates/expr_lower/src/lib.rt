@@ -1,0 +1,10 @@
+//! From filter expressions to conditions on packets.
+#![tactic(auto)]
+
+mod compare;
+mod fault;
+mod spine;
+mod walk;
+
+pub use fault::LowerFault;
+pub use walk::lower;
