@@ -13,7 +13,7 @@ use crate::compare::compare;
 use crate::fault::LowerFault;
 use crate::spine::{Leaf, Spine, way_down};
 use expr_fields::{Draft, ask, moved};
-use expr_meaning::{Link, Place, start};
+use expr_meaning::{Link, Place, can_ask, start};
 use expr_tree::{Kind, Node, Test, Tree};
 use filter_cond::{Cond, Part};
 use std::alloc::Global;
@@ -30,6 +30,9 @@ fn lower_test(
     let Some(place) = before else {
         return Err(LowerFault::Moved { column });
     };
+    if !can_ask(place.layer, test) {
+        return Err(LowerFault::Layer { column });
+    }
     let Some(behind) = moved(test, place) else {
         return Err(LowerFault::Layer { column });
     };

@@ -4,4 +4,5 @@ pub mod Questions
 pub mod Layers
 pub mod Headers
 pub mod Values
+pub mod Asked
 pub mod Holds

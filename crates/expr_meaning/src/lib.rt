@@ -3,10 +3,12 @@
 //! The definitions stand in `specs/`: `Holds` has the expressions, over `Layers`, `Headers` and `Questions`.
 #![tactic(auto)]
 
+mod asked;
 mod carriage;
 mod link;
 mod place;
 
+pub use asked::{can_ask, can_load};
 pub use carriage::{Carriage, carriage_of};
 pub use link::{Link, link_of};
 pub use place::{Layer, Place, start};
