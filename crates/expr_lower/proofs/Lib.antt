@@ -1,2 +1,3 @@
 pub mod Spining
 pub mod Walking
+pub mod Comparing

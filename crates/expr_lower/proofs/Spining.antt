@@ -1,15 +1,16 @@
 -- Expressions along their first operands.
-use Rattle.std.proofs.Common.{◌≡◌, ℕ, zero, suc, ◌+◌, ◌<◌, ◌≤◌, true, false, List, [], ◌∷◌, ◌++◌, length, take, drop, Option, Some, None, refl, sym, ap, ◌∙◌, arith, append_assoc, length-append, length-take}
+use Rattle.std.proofs.Common.{◌≡◌, ℕ, zero, suc, ◌+◌, ◌<◌, ◌≤◌, true, false, List, [], ◌∷◌, ◌++◌, length, take, drop, get_or, Option, Some, None, refl, sym, ap, ◌∙◌, arith, append_assoc, length-append, length-take}
 use Rattle.std.specs.Prelude.{reverse, slice_get, ◌==◌}
 use Rattle.std.proofs.lemmas.List.{reverse-append, length-reverse, take_more}
-use Rattle.std.proofs.lemmas.Option.{slice_get_within, get_or_from_slice_get}
+use Rattle.std.proofs.lemmas.Option.{slice_get_within, get_or_from_slice_get, slice_get-get_or}
 use Rattle.std.proofs.lemmas.Bool.Decides.{nat_tests}
 use Rattle.std.proofs.lemmas.Grind.{common_steps}
+use Rattle.expr_tree.specs.declared.calc.Calc.{Calc}
 use Rattle.expr_tree.specs.declared.tree.Kind.{Kind}
 use Rattle.expr_tree.specs.declared.tree.Kind.TheVariants as kind
 use Rattle.expr_tree.specs.declared.tree.Node.{Node}
 use Rattle.expr_lower.specs.Spines.{leaf_expr, leaf_by, leaf_of, first_of, joined_by, joined_at, joined}
-use Rattle.expr_tree.specs.Expr.{Expr, Value, Every, Not, And, Or, value_by, expr_by, value_in, expr_in, value_at, expr_at}
+use Rattle.expr_tree.specs.Expr.{Expr, Value, Number, Every, Not, And, Or, calc_by, value_by, expr_by, value_in, expr_in, value_at, expr_at}
 
 same : (n : ℕ) → (n == n) ≡ true
 same n = grind (arith, nat_tests)
@@ -130,3 +131,27 @@ rise_step nodes root joins count join node e j n was =
     was
     ∙ ap (λ l. joined nodes l e) (ap reverse (taken joins count join j) ∙ reverse-append (take count joins) (join ∷ []))
     ∙ ap (λ o. joined nodes (reverse (take count joins)) (joined_at nodes join o e)) n
+
+-- calculations
+here_value : (front : List Node) (p : ℕ) (node : Node) → length front ≡ p → value_in (node ∷ reverse front) p ≡ value_by (value_in (reverse front)) node.kind
+here_value front p node e = let n : length (reverse front) ≡ p = length-reverse front ∙ e in rw (n, same p) refl
+
+pub value_at_node : (nodes : List Node) (p : ℕ) (node : Node) → slice_get nodes p ≡ Some node → value_at nodes p ≡ value_by (value_at (take p nodes)) node.kind
+unfolding value_at
+value_at_node nodes p node e =
+    let s = split nodes p node e in
+    ap (λ l. value_in (reverse l) p) s.0
+    ∙ ap (λ l. value_in l p) (backward (take p nodes) (drop (suc p) nodes) node)
+    ∙ skip_value (reverse (drop (suc p) nodes)) (node ∷ reverse (take p nodes)) p (omega (arith, length-reverse (take p nodes), s.1))
+    ∙ here_value (take p nodes) p node s.1
+
+no_value : (nodes : List Node) (p : ℕ) → length nodes ≤ p → value_in nodes p ≡ Number 0
+no_value [] p h = refl
+no_value (x ∷ nodes) p h = let e : (p == length nodes) ≡ false = grind (arith, nat_tests) in rw e (no_value nodes p (omega arith))
+
+pub value_beyond : (nodes : List Node) (p : ℕ) → length nodes ≤ p → value_at nodes p ≡ Number 0
+unfolding value_at
+value_beyond nodes p h = no_value (reverse nodes) p (omega (arith, length-reverse nodes))
+
+pub value_is : (nodes : List Node) (p : ℕ) (d : Node) (calc : Calc) → p < length nodes → ((at : ℕ → Value) → value_by at (get_or nodes p d).kind ≡ calc_by at calc) → value_at nodes p ≡ calc_by (value_at (take p nodes)) calc
+value_is nodes p d calc h e = value_at_node nodes p (get_or nodes p d) (slice_get-get_or nodes p d h) ∙ e (value_at (take p nodes))

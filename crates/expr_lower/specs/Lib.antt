@@ -1,2 +1,3 @@
 pub mod Spines
 pub mod Walks
+pub mod Operands

@@ -14,6 +14,12 @@ pub enum LowerFault {
     /// The test at this column stands behind a tag, but also counts where the tag is missing.
     #[error("the tag before this may be missing")]
     Moved { column: usize },
+    /// The division at this column is by 0: it never has a value.
+    #[error("a division by 0")]
+    Zero { column: usize },
+    /// The shift at this column is by more than 31 bits: it leaves nothing of 32.
+    #[error("a shift by more than 31 bits")]
+    Shift { column: usize },
     /// The comparison at this column is of numbers that are calculated, which is not supported yet.
     #[error("the calculation is too hard")]
     TooHard { column: usize },

@@ -2,7 +2,9 @@
 #![tactic(auto)]
 
 mod compare;
+mod constant;
 mod fault;
+mod operand;
 mod spine;
 mod walk;
 

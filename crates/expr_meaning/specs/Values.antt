@@ -44,14 +44,17 @@ relates Greater a b = nat_lt b a
 relates LessEqual a b = nat_le a b
 relates GreaterEqual a b = nat_le b a
 
--- the number of a size that lies so many bytes into a header: what IPv4 carries begins behind the length of its header (RFC 791, section
--- 3.1), and what IPv6 carries behind its 40 bytes (RFC 8200, section 3)
+-- the number so many bytes into what IPv4 carries, which begins behind the length of its header (RFC 791, section 3.1)
+abbrev pub behind4 : Packet → ℕ → Size → ℕ → Option ℕ
+behind4 packet payload size index = option_and_then (λ past. number_at packet.bytes size (payload + (past + index) % 2 ^ 32)) (header_length packet.bytes payload)
+
+-- the number so many bytes into a header: what IPv6 carries begins behind its 40 bytes (RFC 8200, section 3)
 abbrev pub bytes_of : Packet → ℕ → Carriage → Size → ℕ → Option ℕ
 bytes_of packet payload by.Frame size index = number_at packet.bytes size index
 bytes_of packet payload (by.Type number) size index = number_at packet.bytes size (payload + index)
 bytes_of packet payload (by.Ip6 number) size index = number_at packet.bytes size (payload + 40 + index)
-bytes_of packet payload (by.Ip number) size index = option_and_then (λ past. number_at packet.bytes size (payload + (past + index) % 2 ^ 32)) (header_length packet.bytes payload)
-bytes_of packet payload (by.Both number) size index = option_and_then (λ past. number_at packet.bytes size (payload + (past + index) % 2 ^ 32)) (header_length packet.bytes payload)
+bytes_of packet payload (by.Ip number) size index = behind4 packet payload size index
+bytes_of packet payload (by.Both number) size index = behind4 packet payload size index
 
 -- the value of a calculation
 abbrev pub value : Packet → Place → Value → Option ℕ
