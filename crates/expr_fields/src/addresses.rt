@@ -5,14 +5,15 @@ ghost use Rattle.expr_meaning.specs.Holds as spec;
 ghost use Rattle.expr_fields.specs.Parts.{parts_of};
 
 use crate::draft::{Draft, half, word};
+use crate::items::{Target, any_item};
 use crate::layers::over;
 use expr_meaning::{Layer, Place};
-use expr_tree::{Carrier, Net4, Net6, Side};
+use expr_tree::{Carrier, Net4, Net6, Side, Test};
 use filter_cond::{Load, Part};
 use std::alloc::AllocFailed;
 
 /// An address is in a net.
-fn in_net4(draft: &mut Draft, load: Load, net: Net4) -> Result<(), AllocFailed<Part>>
+pub(crate) fn in_net4(draft: &mut Draft, load: Load, net: Net4) -> Result<(), AllocFailed<Part>>
     ensures { OnOk result (draft.new.parts.items ≡ draft.old.parts.items ++ parts_of (spec.in_net4 load net)) }
 {
     if net.mask == 0 {
@@ -24,22 +25,23 @@ fn in_net4(draft: &mut Draft, load: Load, net: Net4) -> Result<(), AllocFailed<P
     }
 }
 
-/// The address so many bytes into the header of this type is in a net.
+/// The address so many bytes into the header of this type is in one of these nets.
 fn end4(
     draft: &mut Draft,
     place: Place,
     number: u16,
     at: u8,
-    net: Net4,
+    tests: &[Test],
 ) -> Result<(), AllocFailed<Part>>
-    ensures { OnOk result (draft.new.parts.items ≡ draft.old.parts.items ++ parts_of (spec.end4 place number at net)) }
+    ensures { OnOk result (draft.new.parts.items ≡ draft.old.parts.items ++ parts_of (spec.end4 place number at tests.now)) }
 {
     over(draft, place, number)?;
-    in_net4(draft, word(u32::from(place.payload) + u32::from(at)), net)?;
+    let target = Target::Address4(word(u32::from(place.payload) + u32::from(at)));
+    any_item(draft, target, tests)?;
     draft.push(Part::And)
 }
 
-/// The addresses so many bytes into the header of this type are in a net.
+/// The addresses so many bytes into the header of this type are in one of these nets.
 fn ends4(
     draft: &mut Draft,
     place: Place,
@@ -47,21 +49,21 @@ fn ends4(
     source: u8,
     destination: u8,
     side: Side,
-    net: Net4,
+    tests: &[Test],
 ) -> Result<(), AllocFailed<Part>>
-    ensures { OnOk result (draft.new.parts.items ≡ draft.old.parts.items ++ parts_of (spec.ends4 place number source destination side net)) }
+    ensures { OnOk result (draft.new.parts.items ≡ draft.old.parts.items ++ parts_of (spec.ends4 place number source destination side tests.now)) }
 {
     match side {
         Side::Either => {
-            end4(draft, place, number, source, net)?;
-            end4(draft, place, number, destination, net)?;
+            end4(draft, place, number, source, tests)?;
+            end4(draft, place, number, destination, tests)?;
             draft.push(Part::Or)
         }
-        Side::Src => end4(draft, place, number, source, net),
-        Side::Dst => end4(draft, place, number, destination, net),
+        Side::Src => end4(draft, place, number, source, tests),
+        Side::Dst => end4(draft, place, number, destination, tests),
         Side::Both => {
-            end4(draft, place, number, source, net)?;
-            end4(draft, place, number, destination, net)?;
+            end4(draft, place, number, source, tests)?;
+            end4(draft, place, number, destination, tests)?;
             draft.push(Part::And)
         }
     }
@@ -72,14 +74,14 @@ fn all_ends4(
     draft: &mut Draft,
     place: Place,
     side: Side,
-    net: Net4,
+    tests: &[Test],
 ) -> Result<(), AllocFailed<Part>>
-    ensures { OnOk result (draft.new.parts.items ≡ draft.old.parts.items ++ parts_of (spec.all_ends4 place side net)) }
+    ensures { OnOk result (draft.new.parts.items ≡ draft.old.parts.items ++ parts_of (spec.all_ends4 place side tests.now)) }
 {
-    ends4(draft, place, 0x0800, 12, 16, side, net)?;
-    ends4(draft, place, 0x0806, 14, 24, side, net)?;
+    ends4(draft, place, 0x0800, 12, 16, side, tests)?;
+    ends4(draft, place, 0x0806, 14, 24, side, tests)?;
     draft.push(Part::Or)?;
-    ends4(draft, place, 0x8035, 14, 24, side, net)?;
+    ends4(draft, place, 0x8035, 14, 24, side, tests)?;
     draft.push(Part::Or)
 }
 
@@ -88,38 +90,38 @@ fn any_ends4(
     draft: &mut Draft,
     place: Place,
     side: Side,
-    net: Net4,
+    tests: &[Test],
 ) -> Result<(), AllocFailed<Part>>
-    ensures { OnOk result (draft.new.parts.items ≡ draft.old.parts.items ++ parts_of (spec.any_ends4 place side net)) }
+    ensures { OnOk result (draft.new.parts.items ≡ draft.old.parts.items ++ parts_of (spec.any_ends4 place side tests.now)) }
 {
     match place.layer {
-        Layer::Labels => ends4(draft, place, 0x0800, 12, 16, side, net),
-        Layer::Ethernet => all_ends4(draft, place, side, net),
-        Layer::Session => all_ends4(draft, place, side, net),
-        Layer::Cooked => all_ends4(draft, place, side, net),
-        Layer::Raw => all_ends4(draft, place, side, net),
-        Layer::Ipv4 => all_ends4(draft, place, side, net),
-        Layer::Ipv6 => all_ends4(draft, place, side, net),
-        Layer::Null => all_ends4(draft, place, side, net),
-        Layer::Loop => all_ends4(draft, place, side, net),
+        Layer::Labels => ends4(draft, place, 0x0800, 12, 16, side, tests),
+        Layer::Ethernet => all_ends4(draft, place, side, tests),
+        Layer::Session => all_ends4(draft, place, side, tests),
+        Layer::Cooked => all_ends4(draft, place, side, tests),
+        Layer::Raw => all_ends4(draft, place, side, tests),
+        Layer::Ipv4 => all_ends4(draft, place, side, tests),
+        Layer::Ipv6 => all_ends4(draft, place, side, tests),
+        Layer::Null => all_ends4(draft, place, side, tests),
+        Layer::Loop => all_ends4(draft, place, side, tests),
     }
 }
 
-/// An IPv4 net.
+/// IPv4 nets.
 pub(crate) fn net4(
     draft: &mut Draft,
     place: Place,
     carrier: Carrier,
     side: Side,
-    net: Net4,
+    tests: &[Test],
 ) -> Result<(), AllocFailed<Part>>
-    ensures { OnOk result (draft.new.parts.items ≡ draft.old.parts.items ++ parts_of (spec.net4 place carrier side net)) }
+    ensures { OnOk result (draft.new.parts.items ≡ draft.old.parts.items ++ parts_of (spec.net4 place carrier side tests.now)) }
 {
     match carrier {
-        Carrier::Any => any_ends4(draft, place, side, net),
-        Carrier::Ip => ends4(draft, place, 0x0800, 12, 16, side, net),
-        Carrier::Arp => ends4(draft, place, 0x0806, 14, 24, side, net),
-        Carrier::Rarp => ends4(draft, place, 0x8035, 14, 24, side, net),
+        Carrier::Any => any_ends4(draft, place, side, tests),
+        Carrier::Ip => ends4(draft, place, 0x0800, 12, 16, side, tests),
+        Carrier::Arp => ends4(draft, place, 0x0806, 14, 24, side, tests),
+        Carrier::Rarp => ends4(draft, place, 0x8035, 14, 24, side, tests),
     }
 }
 
@@ -147,7 +149,7 @@ fn in_word(draft: &mut Draft, load: Load, count: u8, value: u32) -> Result<(), A
 }
 
 /// An address that begins at this byte is in a net.
-fn in_net6(draft: &mut Draft, at: u32, net: Net6) -> Result<(), AllocFailed<Part>>
+pub(crate) fn in_net6(draft: &mut Draft, at: u32, net: Net6) -> Result<(), AllocFailed<Part>>
     requires { at < 2 ^ 31 }
     ensures { OnOk result (draft.new.parts.items ≡ draft.old.parts.items ++ parts_of (spec.in_net6 at net)) }
 {
@@ -176,35 +178,35 @@ fn in_net6(draft: &mut Draft, at: u32, net: Net6) -> Result<(), AllocFailed<Part
     draft.push(Part::And)
 }
 
-/// The IPv6 address so many bytes into its header is in a net.
-fn end6(draft: &mut Draft, place: Place, at: u8, net: Net6) -> Result<(), AllocFailed<Part>>
-    ensures { OnOk result (draft.new.parts.items ≡ draft.old.parts.items ++ parts_of (spec.end6 place at net)) }
+/// The IPv6 address so many bytes into its header is in one of these nets.
+fn end6(draft: &mut Draft, place: Place, at: u8, tests: &[Test]) -> Result<(), AllocFailed<Part>>
+    ensures { OnOk result (draft.new.parts.items ≡ draft.old.parts.items ++ parts_of (spec.end6 place at tests.now)) }
 {
     over(draft, place, 0x86dd)?;
-    in_net6(draft, u32::from(place.payload) + u32::from(at), net)?;
+    any_item(draft, Target::Address6(place.payload, at), tests)?;
     draft.push(Part::And)
 }
 
-/// An IPv6 net.
+/// IPv6 nets.
 pub(crate) fn net6(
     draft: &mut Draft,
     place: Place,
     side: Side,
-    net: Net6,
+    tests: &[Test],
 ) -> Result<(), AllocFailed<Part>>
-    ensures { OnOk result (draft.new.parts.items ≡ draft.old.parts.items ++ parts_of (spec.net6 place side net)) }
+    ensures { OnOk result (draft.new.parts.items ≡ draft.old.parts.items ++ parts_of (spec.net6 place side tests.now)) }
 {
     match side {
         Side::Either => {
-            end6(draft, place, 8, net)?;
-            end6(draft, place, 24, net)?;
+            end6(draft, place, 8, tests)?;
+            end6(draft, place, 24, tests)?;
             draft.push(Part::Or)
         }
-        Side::Src => end6(draft, place, 8, net),
-        Side::Dst => end6(draft, place, 24, net),
+        Side::Src => end6(draft, place, 8, tests),
+        Side::Dst => end6(draft, place, 24, tests),
         Side::Both => {
-            end6(draft, place, 8, net)?;
-            end6(draft, place, 24, net)?;
+            end6(draft, place, 8, tests)?;
+            end6(draft, place, 24, tests)?;
             draft.push(Part::And)
         }
     }
@@ -220,21 +222,28 @@ pub(crate) fn mac_at(draft: &mut Draft, at: u8, address: u64) -> Result<(), Allo
     draft.push(Part::And)
 }
 
-/// An Ethernet address.
-pub(crate) fn mac(draft: &mut Draft, side: Side, address: u64) -> Result<(), AllocFailed<Part>>
-    ensures { OnOk result (draft.new.parts.items ≡ draft.old.parts.items ++ parts_of (spec.mac side address)) }
+/// The Ethernet address at a byte of the frame is one of these.
+fn end_mac(draft: &mut Draft, at: u8, tests: &[Test]) -> Result<(), AllocFailed<Part>>
+    ensures { OnOk result (draft.new.parts.items ≡ draft.old.parts.items ++ parts_of (spec.end_mac at tests.now)) }
+{
+    any_item(draft, Target::Mac(at), tests)
+}
+
+/// Ethernet addresses.
+pub(crate) fn mac(draft: &mut Draft, side: Side, tests: &[Test]) -> Result<(), AllocFailed<Part>>
+    ensures { OnOk result (draft.new.parts.items ≡ draft.old.parts.items ++ parts_of (spec.mac side tests.now)) }
 {
     match side {
         Side::Either => {
-            mac_at(draft, 6, address)?;
-            mac_at(draft, 0, address)?;
+            end_mac(draft, 6, tests)?;
+            end_mac(draft, 0, tests)?;
             draft.push(Part::Or)
         }
-        Side::Src => mac_at(draft, 6, address),
-        Side::Dst => mac_at(draft, 0, address),
+        Side::Src => end_mac(draft, 6, tests),
+        Side::Dst => end_mac(draft, 0, tests),
         Side::Both => {
-            mac_at(draft, 6, address)?;
-            mac_at(draft, 0, address)?;
+            end_mac(draft, 6, tests)?;
+            end_mac(draft, 0, tests)?;
             draft.push(Part::And)
         }
     }

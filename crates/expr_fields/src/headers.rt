@@ -26,11 +26,7 @@ pub(crate) fn next_at(place: Place) -> Load
 }
 
 /// IPv4 carries the protocol with this number.
-pub(crate) fn carries4(
-    draft: &mut Draft,
-    place: Place,
-    number: u16,
-) -> Result<(), AllocFailed<Part>>
+fn carries4(draft: &mut Draft, place: Place, number: u16) -> Result<(), AllocFailed<Part>>
     ensures { OnOk result (draft.new.parts.items ≡ draft.old.parts.items ++ parts_of (spec.carries4 place number)) }
 {
     over(draft, place, 0x0800)?;
@@ -51,11 +47,7 @@ fn next(draft: &mut Draft, place: Place, number: u16) -> Result<(), AllocFailed<
 }
 
 /// IPv6 carries the protocol with this number.
-pub(crate) fn carries6(
-    draft: &mut Draft,
-    place: Place,
-    number: u16,
-) -> Result<(), AllocFailed<Part>>
+fn carries6(draft: &mut Draft, place: Place, number: u16) -> Result<(), AllocFailed<Part>>
     ensures { OnOk result (draft.new.parts.items ≡ draft.old.parts.items ++ parts_of (spec.carries6 place number)) }
 {
     over(draft, place, 0x86dd)?;
@@ -64,7 +56,7 @@ pub(crate) fn carries6(
 }
 
 /// IPv4 or IPv6 carries the protocol with this number.
-pub(crate) fn carries(draft: &mut Draft, place: Place, number: u16) -> Result<(), AllocFailed<Part>>
+fn carries(draft: &mut Draft, place: Place, number: u16) -> Result<(), AllocFailed<Part>>
     ensures { OnOk result (draft.new.parts.items ≡ draft.old.parts.items ++ parts_of (spec.carries place number)) }
 {
     carries4(draft, place, number)?;

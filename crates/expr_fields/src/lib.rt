@@ -4,6 +4,7 @@
 mod addresses;
 mod draft;
 mod headers;
+mod items;
 mod layers;
 mod ports;
 mod tags;

@@ -6,10 +6,11 @@ ghost use Rattle.expr_fields.specs.Parts.{parts_of};
 
 use crate::draft::{Draft, half};
 use crate::headers::{first_fragment, next_at, protocol_at};
+use crate::items::{Target, any_item};
 use crate::layers::over;
 use bpf_insn::Size;
 use expr_meaning::Place;
-use expr_tree::{Side, Transport};
+use expr_tree::{Side, Test, Transport};
 use filter_cond::{Load, Part};
 use std::alloc::AllocFailed;
 
@@ -30,7 +31,12 @@ fn transports(draft: &mut Draft, load: Load, transport: Transport) -> Result<(),
 }
 
 /// The number lies between these, or is one of them.
-fn within(draft: &mut Draft, load: Load, low: u16, high: u16) -> Result<(), AllocFailed<Part>>
+pub(crate) fn within(
+    draft: &mut Draft,
+    load: Load,
+    low: u16,
+    high: u16,
+) -> Result<(), AllocFailed<Part>>
     ensures { OnOk result (draft.new.parts.items ≡ draft.old.parts.items ++ parts_of (spec.within load low high)) }
 {
     if low == high {
@@ -42,31 +48,65 @@ fn within(draft: &mut Draft, load: Load, low: u16, high: u16) -> Result<(), Allo
     }
 }
 
-/// The ports lie between these.
+/// A port is in one of these ranges.
+fn end_port(draft: &mut Draft, load: Load, tests: &[Test]) -> Result<(), AllocFailed<Part>>
+    ensures { OnOk result (draft.new.parts.items ≡ draft.old.parts.items ++ parts_of (spec.end_port load tests.now)) }
+{
+    any_item(draft, Target::Port(load), tests)
+}
+
+/// The ports are in these ranges.
 fn ends(
     draft: &mut Draft,
     source: Load,
     destination: Load,
     side: Side,
-    low: u16,
-    high: u16,
+    tests: &[Test],
 ) -> Result<(), AllocFailed<Part>>
-    ensures { OnOk result (draft.new.parts.items ≡ draft.old.parts.items ++ parts_of (spec.ends source destination side low high)) }
+    ensures { OnOk result (draft.new.parts.items ≡ draft.old.parts.items ++ parts_of (spec.ends source destination side tests.now)) }
 {
     match side {
         Side::Either => {
-            within(draft, source, low, high)?;
-            within(draft, destination, low, high)?;
+            end_port(draft, source, tests)?;
+            end_port(draft, destination, tests)?;
             draft.push(Part::Or)
         }
-        Side::Src => within(draft, source, low, high),
-        Side::Dst => within(draft, destination, low, high),
+        Side::Src => end_port(draft, source, tests),
+        Side::Dst => end_port(draft, destination, tests),
         Side::Both => {
-            within(draft, source, low, high)?;
-            within(draft, destination, low, high)?;
+            end_port(draft, source, tests)?;
+            end_port(draft, destination, tests)?;
             draft.push(Part::And)
         }
     }
+}
+
+/// Where a port is behind IPv6's header.
+fn port6(place: Place, at: u8) -> Load
+    ensures { result ≡ spec.port6 place at }
+{
+    half(u32::from(place.payload) + 40 + u32::from(at))
+}
+
+/// Where a port is behind IPv4's header.
+fn port4(place: Place, at: u8) -> Load
+    ensures { result ≡ spec.port4 place at }
+{
+    let header = u32::from(place.payload);
+    Load::Past {
+        size: Size::Half,
+        header,
+        at: header + u32::from(at),
+    }
+}
+
+/// IPv6 says that one of these protocols comes next.
+fn begins6(draft: &mut Draft, place: Place, transport: Transport) -> Result<(), AllocFailed<Part>>
+    ensures { OnOk result (draft.new.parts.items ≡ draft.old.parts.items ++ parts_of (spec.begins6 place transport)) }
+{
+    over(draft, place, 0x86dd)?;
+    transports(draft, next_at(place), transport)?;
+    draft.push(Part::And)
 }
 
 /// The ports behind IPv6's header.
@@ -75,16 +115,14 @@ fn ports6(
     place: Place,
     transport: Transport,
     side: Side,
-    low: u16,
-    high: u16,
+    tests: &[Test],
 ) -> Result<(), AllocFailed<Part>>
-    ensures { OnOk result (draft.new.parts.items ≡ draft.old.parts.items ++ parts_of (spec.ports6 place transport side low high)) }
+    ensures { OnOk result (draft.new.parts.items ≡ draft.old.parts.items ++ parts_of (spec.ports6 place transport side tests.now)) }
 {
-    let at = u32::from(place.payload) + 40;
-    over(draft, place, 0x86dd)?;
-    transports(draft, next_at(place), transport)?;
-    draft.push(Part::And)?;
-    ends(draft, half(at), half(at + 2), side, low, high)?;
+    let source = port6(place, 0);
+    let destination = port6(place, 2);
+    begins6(draft, place, transport)?;
+    ends(draft, source, destination, side, tests)?;
     draft.push(Part::And)
 }
 
@@ -105,39 +143,28 @@ fn ports4(
     place: Place,
     transport: Transport,
     side: Side,
-    low: u16,
-    high: u16,
+    tests: &[Test],
 ) -> Result<(), AllocFailed<Part>>
-    ensures { OnOk result (draft.new.parts.items ≡ draft.old.parts.items ++ parts_of (spec.ports4 place transport side low high)) }
+    ensures { OnOk result (draft.new.parts.items ≡ draft.old.parts.items ++ parts_of (spec.ports4 place transport side tests.now)) }
 {
-    let header = u32::from(place.payload);
-    let source = Load::Past {
-        size: Size::Half,
-        header,
-        at: header,
-    };
-    let destination = Load::Past {
-        size: Size::Half,
-        header,
-        at: header + 2,
-    };
+    let source = port4(place, 0);
+    let destination = port4(place, 2);
     begins4(draft, place, transport)?;
-    ends(draft, source, destination, side, low, high)?;
+    ends(draft, source, destination, side, tests)?;
     draft.push(Part::And)
 }
 
-/// A port, or a range of ports.
+/// Ports, and ranges of ports.
 pub(crate) fn ports(
     draft: &mut Draft,
     place: Place,
     transport: Transport,
     side: Side,
-    low: u16,
-    high: u16,
+    tests: &[Test],
 ) -> Result<(), AllocFailed<Part>>
-    ensures { OnOk result (draft.new.parts.items ≡ draft.old.parts.items ++ parts_of (spec.ports place transport side low high)) }
+    ensures { OnOk result (draft.new.parts.items ≡ draft.old.parts.items ++ parts_of (spec.ports place transport side tests.now)) }
 {
-    ports6(draft, place, transport, side, low, high)?;
-    ports4(draft, place, transport, side, low, high)?;
+    ports6(draft, place, transport, side, tests)?;
+    ports4(draft, place, transport, side, tests)?;
     draft.push(Part::Or)
 }

@@ -28,7 +28,7 @@ use Rattle.expr_meaning.specs.Holds.{headers}
 use Rattle.expr_fields.specs.Parts.{parts_of}
 use Rattle.expr_lower.specs.declared.operand.HeaderAt.{HeaderAt}
 use Rattle.expr_lower.specs.declared.operand.Loading.{Loading}
-use Rattle.expr_lower.specs.Walks.{Fits, Lowers}
+use Rattle.expr_lower.specs.Walks.{Fits, Fronts}
 use Rattle.expr_lower.specs.Operands.{IsConstant, header_of, Loads, LoadsAll, IsMasked, related, relate, turned}
 use Rattle.expr_lower.proofs.Walking.{adds_parts}
 
@@ -168,7 +168,7 @@ from_the_right relation mask k None = refl
 from_the_right relation mask k (Some x) = ap Some (back relation k (masked mask x))
 
 -- comparisons
-pub loads_lower : (relation : Relation) (v w : Value) (before : Option Place) (loading : Loading) (k : ℕ) (old new : List Part) → Loads v before loading → IsConstant w k → new ≡ old ++ parts_of (relate relation loading k) → Lowers (Compare relation v w) before before old new
+pub loads_lower : (relation : Relation) (v w : Value) (before : Option Place) (loading : Loading) (k : ℕ) (old new : List Part) → Loads v before loading → IsConstant w k → new ≡ old ++ parts_of (relate relation loading k) → Fronts (Compare relation v w) before before old new
 loads_lower relation v w before loading k old new l c e = record {
   says = λ place fits results packet.
       let p = l packet place fits in
@@ -186,7 +186,7 @@ loads_lower relation v w before loading k old new l c e = record {
   moves = λ place fits. fits;
 }
 
-pub turned_lower : (relation : Relation) (v w : Value) (before : Option Place) (loading : Loading) (k : ℕ) (old new : List Part) → IsConstant v k → Loads w before loading → new ≡ old ++ parts_of (relate (turned relation) loading k) → Lowers (Compare relation v w) before before old new
+pub turned_lower : (relation : Relation) (v w : Value) (before : Option Place) (loading : Loading) (k : ℕ) (old new : List Part) → IsConstant v k → Loads w before loading → new ≡ old ++ parts_of (relate (turned relation) loading k) → Fronts (Compare relation v w) before before old new
 turned_lower relation v w before loading k old new c l e = record {
   says = λ place fits results packet.
       let p = c packet place in
@@ -207,7 +207,7 @@ known_is : (b : Bool) (packet : Packet) → answer (known b) packet ≡ Some b
 known_is true packet = refl
 known_is false packet = refl
 
-pub known_lower : (relation : Relation) (v w : Value) (before : Option Place) (a b : ℕ) (old new : List Part) → IsConstant v a → IsConstant w b → new ≡ old ++ parts_of (known (relates relation a b)) → Lowers (Compare relation v w) before before old new
+pub known_lower : (relation : Relation) (v w : Value) (before : Option Place) (a b : ℕ) (old new : List Part) → IsConstant v a → IsConstant w b → new ≡ old ++ parts_of (known (relates relation a b)) → Fronts (Compare relation v w) before before old new
 known_lower relation v w before a b old new c d e = record {
   says = λ place fits results packet.
       let p = c packet place in

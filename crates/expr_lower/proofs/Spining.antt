@@ -1,5 +1,5 @@
 -- Expressions along their first operands.
-use Rattle.std.proofs.Common.{◌≡◌, ℕ, zero, suc, ◌+◌, ◌<◌, ◌≤◌, true, false, List, [], ◌∷◌, ◌++◌, length, take, drop, get_or, Option, Some, None, refl, sym, ap, ◌∙◌, arith, append_assoc, length-append, length-take}
+use Rattle.std.proofs.Common.{◌≡◌, ℕ, zero, suc, ◌+◌, ◌<◌, ◌≤◌, true, false, List, [], ◌∷◌, ◌++◌, length, take, drop, get_or, Option, Some, None, refl, sym, ap, ◌∙◌, subst, arith, append_assoc, length-append, length-take}
 use Rattle.std.specs.Prelude.{reverse, slice_get, ◌==◌}
 use Rattle.std.proofs.lemmas.List.{reverse-append, length-reverse, take_more}
 use Rattle.std.proofs.lemmas.Option.{slice_get_within, get_or_from_slice_get, slice_get-get_or}
@@ -9,8 +9,10 @@ use Rattle.expr_tree.specs.declared.calc.Calc.{Calc}
 use Rattle.expr_tree.specs.declared.tree.Kind.{Kind}
 use Rattle.expr_tree.specs.declared.tree.Kind.TheVariants as kind
 use Rattle.expr_tree.specs.declared.tree.Node.{Node}
-use Rattle.expr_lower.specs.Spines.{leaf_expr, leaf_by, leaf_of, first_of, joined_by, joined_at, joined}
-use Rattle.expr_tree.specs.Expr.{Expr, Value, Number, Every, Not, And, Or, calc_by, value_by, expr_by, value_in, expr_in, value_at, expr_at}
+use Rattle.expr_lower.specs.Spines.{leaf_expr, leaf_by, leaf_of, first_of, test_of, joined_by, joined_at, joined}
+use Rattle.expr_tree.specs.declared.test.Test.{Test}
+use Rattle.expr_lower.specs.Walks.{IsTest}
+use Rattle.expr_tree.specs.Expr.{Expr, Value, Number, Every, Is, Compare, Not, And, Or, calc_by, value_by, expr_by, value_in, expr_in, value_at, expr_at}
 
 same : (n : ℕ) → (n == n) ≡ true
 same n = grind (arith, nat_tests)
@@ -155,3 +157,22 @@ value_beyond nodes p h = no_value (reverse nodes) p (omega (arith, length-revers
 
 pub value_is : (nodes : List Node) (p : ℕ) (d : Node) (calc : Calc) → p < length nodes → ((at : ℕ → Value) → value_by at (get_or nodes p d).kind ≡ calc_by at calc) → value_at nodes p ≡ calc_by (value_at (take p nodes)) calc
 value_is nodes p d calc h e = value_at_node nodes p (get_or nodes p d) (slice_get-get_or nodes p d h) ∙ e (value_at (take p nodes))
+
+-- tests
+test_by : (values : ℕ → Value) (exprs : ℕ → Expr) (k : Kind) → IsTest (test_of k) (expr_by values exprs k)
+test_by values exprs (kind.Test test) = refl
+test_by values exprs kind.Every = λ test e. absurd (cc)
+test_by values exprs (kind.Compare relation first second) = λ test e. absurd (cc)
+test_by values exprs (kind.Not of) = λ test e. absurd (cc)
+test_by values exprs (kind.And first second) = λ test e. absurd (cc)
+test_by values exprs (kind.Or first second) = λ test e. absurd (cc)
+test_by values exprs (kind.Calc calc) = λ test e. absurd (cc)
+
+pub test_is : (nodes : List Node) (p : ℕ) (d : Node) (found : Option Test) → p < length nodes → found ≡ test_of (get_or nodes p d).kind → IsTest found (expr_at nodes p)
+test_is nodes p d found h e =
+    subst (λ o. IsTest o (expr_at nodes p)) (sym e)
+    (subst (IsTest (test_of (get_or nodes p d).kind)) (sym (expr_at_node nodes p (get_or nodes p d) (slice_get-get_or nodes p d h)))
+    (test_by (value_at (take p nodes)) (expr_at (take p nodes)) (get_or nodes p d).kind))
+
+pub test_beyond : (nodes : List Node) (p : ℕ) → length nodes ≤ p → IsTest None (expr_at nodes p)
+test_beyond nodes p h = subst (IsTest None) (sym (expr_beyond nodes p h)) (λ test e. absurd (cc))

@@ -1,5 +1,6 @@
 -- Expressions along their first operands.
 use Rattle.std.specs.Prelude.{ℕ, List, [], ◌∷◌, take, Option, Some, None, slice_get}
+use Rattle.expr_tree.specs.declared.test.Test.{Test}
 use Rattle.expr_tree.specs.declared.tree.Kind.{Kind}
 use Rattle.expr_tree.specs.declared.tree.Kind.TheVariants as kind
 use Rattle.expr_tree.specs.declared.tree.Node.{Node}
@@ -54,3 +55,13 @@ first_of kind.Every = None
 first_of (kind.Test test) = None
 first_of (kind.Compare relation first second) = None
 first_of (kind.Calc calc) = None
+
+-- the test that a node is
+abbrev pub test_of : Kind → Option Test
+test_of (kind.Test test) = Some test
+test_of kind.Every = None
+test_of (kind.Compare relation first second) = None
+test_of (kind.Not of) = None
+test_of (kind.And first second) = None
+test_of (kind.Or first second) = None
+test_of (kind.Calc calc) = None

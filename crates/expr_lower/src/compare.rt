@@ -6,7 +6,7 @@ ghost use Rattle.expr_meaning.specs.Layers.{known};
 ghost use Rattle.expr_fields.specs.Parts.{parts_of};
 ghost use Rattle.expr_tree.specs.Expr.{Compare, value_at};
 ghost use Rattle.expr_lower.specs.Operands as spec;
-ghost use Rattle.expr_lower.specs.Walks.{Lowers};
+ghost use Rattle.expr_lower.specs.Walks.{Fronts};
 
 use crate::fault::LowerFault;
 use crate::operand::{HeaderAt, Loading, Operand, side_of};
@@ -127,7 +127,7 @@ pub(crate) fn compare(
     before: Option<Place>,
     related: Related,
 ) -> Result<Option<Place>, LowerFault>
-    ensures { IfOk result (λ behind. Lowers (Compare related.relation (value_at nodes.now related.first) (value_at nodes.now related.second)) before behind draft.old.parts.items draft.new.parts.items) }
+    ensures { IfOk result (λ behind. Fronts (Compare related.relation (value_at nodes.now related.first) (value_at nodes.now related.second)) before behind draft.old.parts.items draft.new.parts.items) }
 {
     let Related {
         relation,

@@ -1,31 +1,28 @@
 //! Expressions as conditions.
 
-ghost use Rattle.std.specs.Prelude.{◌≡◌, IfOk, IfSome};
+ghost use Rattle.std.specs.Prelude.{◌≡◌, [], Some, option_map, IfOk, IfSome, OnOk};
 ghost use Rattle.bpf_insn.specs.Machine.{Packet};
 ghost use Rattle.filter_cond.specs.Means.{means};
-ghost use Rattle.expr_tree.specs.Expr.{Is, expr_at, expr_of, value_at};
-ghost use Rattle.expr_meaning.specs.Holds.{holds};
+ghost use Rattle.expr_tree.specs.Expr.{Is, Or, expr_at, expr_of, value_at};
+ghost use Rattle.expr_meaning.specs.declared.place.Place as the_place;
+ghost use Rattle.expr_meaning.specs.Holds.{holds, moved};
 ghost use Rattle.expr_meaning.specs.Layers as layers;
 ghost use Rattle.expr_lower.specs.Spines.{leaf_expr, joined_by};
-ghost use Rattle.expr_lower.specs.Walks.{Lowers, Joins};
+ghost use Rattle.expr_lower.specs.Spines as spec;
+ghost use Rattle.expr_lower.specs.Walks.{Fits, Lowers, Runs, Flushes, Joins, IsTest};
 
 use crate::compare::compare;
 use crate::fault::LowerFault;
 use crate::spine::{Leaf, Spine, way_down};
 use expr_fields::{Draft, ask, moved};
-use expr_meaning::{Link, Place, can_ask, start};
+use expr_meaning::{Link, Place, can_ask, is_one_more, start};
 use expr_tree::{Kind, Node, Test, Tree};
 use filter_cond::{Cond, Part};
 use std::alloc::Global;
 
-/// Adds a test.
-fn lower_test(
-    draft: &mut Draft,
-    before: Option<Place>,
-    test: Test,
-    column: usize,
-) -> Result<Option<Place>, LowerFault>
-    ensures { IfOk result (λ behind. Lowers (Is test) before behind draft.old.parts.items draft.new.parts.items) }
+/// The place behind a test, where it can be asked.
+fn check_test(before: Option<Place>, test: Test, column: usize) -> Result<Option<Place>, LowerFault>
+    ensures { IfOk result (λ behind. (place : the_place.Place) → Fits before place → Fits behind (moved test place)) }
 {
     let Some(place) = before else {
         return Err(LowerFault::Moved { column });
@@ -33,29 +30,62 @@ fn lower_test(
     if !can_ask(place.layer, test) {
         return Err(LowerFault::Layer { column });
     }
-    let Some(behind) = moved(test, place) else {
-        return Err(LowerFault::Layer { column });
-    };
-    ask(draft, place, test)?;
-    Ok(Some(behind))
+    match moved(test, place) {
+        Some(behind) => Ok(Some(behind)),
+        None => Err(LowerFault::Layer { column }),
+    }
 }
 
-/// Adds a part of an expression that is made of no others; the calculations that it compares stand among these nodes.
+/// Adds a part of an expression that is made of no others, but for its test; the calculations that it compares stand among these
+/// nodes.
 fn lower_leaf(
     draft: &mut Draft,
+    tests: &mut Vec<Test>,
     nodes: &[Node],
     before: Option<Place>,
     leaf: Leaf,
 ) -> Result<Option<Place>, LowerFault>
-    ensures { IfOk result (λ behind. Lowers (leaf_expr (value_at nodes.now) leaf) before behind draft.old.parts.items draft.new.parts.items) }
+    requires { tests.old.items ≡ [] }
+    ensures { IfOk result (λ behind. Runs (leaf_expr (value_at nodes.now) leaf) before behind tests.new.items draft.old.parts.items draft.new.parts.items) }
 {
     match leaf {
         Leaf::Every => {
             draft.push(Part::Always)?;
             Ok(before)
         }
-        Leaf::Test(test, column) => lower_test(draft, before, test, column),
+        Leaf::Test(test, column) => {
+            let behind = check_test(before, test, column)?;
+            draft.push(Part::Never)?;
+            tests.push(test)?;
+            Ok(behind)
+        }
         Leaf::Compare(related) => compare(draft, nodes, before, related),
+    }
+}
+
+/// Adds what a list of tests asks, where what stands before it is false.
+fn flush(
+    draft: &mut Draft,
+    before: Option<Place>,
+    tests: &[Test],
+    column: usize,
+) -> Result<(), LowerFault>
+    ensures { OnOk result (Flushes before tests.now draft.old.parts.items draft.new.parts.items) }
+{
+    match before {
+        Some(place) => {
+            ask(draft, place, tests)?;
+            draft.push(Part::Or)?;
+            Ok(())
+        }
+        None => match tests {
+            [] => {
+                draft.push(Part::Never)?;
+                draft.push(Part::Or)?;
+                Ok(())
+            }
+            [_, ..] => Err(LowerFault::Moved { column }),
+        },
     }
 }
 
@@ -66,35 +96,98 @@ fn kept(before: Option<Place>, behind: Option<Place>) -> Option<Place>
     if before == behind { before } else { None }
 }
 
-/// Adds what a node of this kind makes of its first operand, which is written, and which stands behind this place; its other operand
-/// is among the nodes below it.
+/// The test that a node is.
+fn test_of(kind: Kind) -> Option<Test>
+    ensures { result ≡ spec.test_of kind }
+{
+    match kind {
+        Kind::Test(test) => Some(test),
+        Kind::Every => None,
+        Kind::Compare(_, _, _) => None,
+        Kind::Not(_) => None,
+        Kind::And(_, _) => None,
+        Kind::Or(_, _) => None,
+        Kind::Calc(_) => None,
+    }
+}
+
+/// The test at a place, and its column.
+fn test_at(nodes: &[Node], place: usize) -> Option<(Test, usize)>
+    ensures { IsTest (option_map (λ found. found.0) result) (expr_at nodes.now place) }
+{
+    if place >= nodes.len() {
+        return None;
+    }
+    let Node { kind, column } = nodes[place];
+    match test_of(kind) {
+        Some(test) => Some((test, column)),
+        None => None,
+    }
+}
+
+/// Adds a test after `or`: to the list before it, or as the first of another one.
+fn lower_or_test(
+    draft: &mut Draft,
+    tests: &mut Vec<Test>,
+    before: Option<Place>,
+    behind: Option<Place>,
+    test: Test,
+    column: usize,
+) -> Result<Option<Place>, LowerFault>
+    ensures { IfOk result (λ end. Joins (λ first. Or first (Is test)) before behind end tests.old.items tests.new.items draft.old.parts.items draft.new.parts.items) }
+{
+    let middle = kept(before, behind);
+    let end = check_test(middle, test, column)?;
+    if is_one_more(tests, test) {
+        tests.push(test)?;
+        return Ok(kept(middle, end));
+    }
+    flush(draft, before, tests, column)?;
+    tests.clear();
+    tests.push(test)?;
+    Ok(kept(middle, end))
+}
+
+/// Adds what a node of this kind makes of its first operand, which is written but for the list that it ends in, and which stands
+/// behind this place; its other operand is among the nodes below it.
 #[cycle(walk)]
 fn lower_join(
     alloc: Global,
     draft: &mut Draft,
+    tests: &mut Vec<Test>,
     below: &[Node],
-    kind: Kind,
+    node: Node,
     before: Option<Place>,
     behind: Option<Place>,
 ) -> Result<Option<Place>, LowerFault>
-    ensures { IfOk result (λ end. Joins (joined_by (expr_at below.now) kind) before behind end draft.old.parts.items draft.new.parts.items) }
+    ensures { IfOk result (λ end. Joins (joined_by (expr_at below.now) node.kind) before behind end tests.old.items tests.new.items draft.old.parts.items draft.new.parts.items) }
 {
+    let Node { kind, column } = node;
     match kind {
         Kind::Not(_) => {
+            flush(draft, before, tests, column)?;
+            tests.clear();
             draft.push(Part::Not)?;
             Ok(kept(before, behind))
         }
         Kind::And(_, second) => {
+            flush(draft, before, tests, column)?;
+            tests.clear();
             let end = lower_at(alloc, draft, below, behind, second)?;
             draft.push(Part::And)?;
             Ok(end)
         }
-        Kind::Or(_, second) => {
-            let middle = kept(before, behind);
-            let end = lower_at(alloc, draft, below, middle, second)?;
-            draft.push(Part::Or)?;
-            Ok(kept(middle, end))
-        }
+        Kind::Or(_, second) => match test_at(below, second) {
+            Some((test, column)) => lower_or_test(draft, tests, before, behind, test, column),
+            None => {
+                flush(draft, before, tests, column)?;
+                tests.clear();
+                let middle = kept(before, behind);
+                let end = lower_at(alloc, draft, below, middle, second)?;
+                draft.push(Part::Or)?;
+                Ok(kept(middle, end))
+            }
+        },
         Kind::Every => Ok(behind),
         Kind::Test(_) => Ok(behind),
         Kind::Compare(_, _, _) => Ok(behind),
@@ -114,7 +207,8 @@ fn lower_at(
     ensures { IfOk result (λ behind. Lowers (expr_at nodes.now place) before behind draft.old.parts.items draft.new.parts.items) }
 {
     let Spine { joins, leaf, limit } = way_down(alloc, nodes, place)?;
-    let mut behind = lower_leaf(draft, &nodes[..limit], before, leaf)?;
+    let mut tests = Vec::new(alloc);
+    let mut behind = lower_leaf(draft, &mut tests, &nodes[..limit], before, leaf)?;
     let mut count = joins.len();
     'up: while count > 0 {
         count -= 1;
@@ -122,12 +216,14 @@ fn lower_at(
         behind = lower_join(
             alloc,
             draft,
+            &mut tests,
             &nodes[..join],
-            nodes[join].kind,
+            nodes[join],
             before,
             behind,
         )?;
     }
+    flush(draft, before, &tests, 1)?;
     Ok(behind)
 }
 

@@ -5,4 +5,5 @@ pub mod Layers
 pub mod Headers
 pub mod Values
 pub mod Asked
+pub mod Lists
 pub mod Holds

@@ -1,6 +1,6 @@
 -- What a test asks of a packet: questions about numbers of it. The answer is yes or no, or none where a byte that is asked for wasn't
 -- captured. It is asked from the left to the right, and no further than needed.
-use Rattle.std.specs.Prelude.{ℕ, Bool, true, false, not, Option, Some, None, option_map}
+use Rattle.std.specs.Prelude.{ℕ, Bool, true, false, not, List, [], ◌∷◌, fold, Option, Some, None, option_map}
 use Rattle.bpf_insn.specs.declared.form.Size.TheVariants as size
 use Rattle.bpf_insn.specs.declared.form.Test.TheVariants.{Equal, Greater, GreaterOrEqual}
 use Rattle.bpf_insn.specs.Machine.{Packet}
@@ -62,3 +62,8 @@ at_most load value = Not (above load value)
 -- the number's bits of this mask are those of this value
 abbrev pub bits : Load → ℕ → ℕ → Question
 bits load mask value = Ask (record { load = load; mask = Some mask; test = Equal; value = value })
+
+-- one of these
+abbrev pub any_of : List Question → Question
+any_of [] = No
+any_of (question ∷ questions) = fold Or question questions

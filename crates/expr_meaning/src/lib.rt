@@ -6,9 +6,11 @@
 mod asked;
 mod carriage;
 mod link;
+mod lists;
 mod place;
 
 pub use asked::{can_ask, can_load};
 pub use carriage::{Carriage, carriage_of};
 pub use link::{Link, link_of};
+pub use lists::{Item, is_one_more, item_of};
 pub use place::{Layer, Place, start};

@@ -9,7 +9,7 @@ abbrev pub decreases-lower_at : goal.decreases-lower_at
 decreases-lower_at l = 2 * length l.nodes.now
 
 abbrev pub invariant-lower_at-up : goal.invariant-lower_at-up
-invariant-lower_at-up l = IsRising l.nodes l.place l.joins.items l.count l.before l.behind l.fn.draft.parts.items l.draft.parts.items
+invariant-lower_at-up l = IsRising l.nodes l.place l.joins.items l.count l.before l.behind l.tests.items l.fn.draft.parts.items l.draft.parts.items
 
 abbrev pub decreases-lower_at-up : goal.decreases-lower_at-up
 decreases-lower_at-up l = l.count
