@@ -10,7 +10,7 @@ use Rattle.expr_tree.specs.declared.test.Test.TheVariants as test
 use Rattle.expr_meaning.specs.declared.carriage.Carriage.{Carriage}
 use Rattle.expr_meaning.specs.declared.carriage.Carriage.TheVariants as by
 use Rattle.expr_meaning.specs.declared.place.Layer.{Layer}
-use Rattle.expr_meaning.specs.declared.place.Layer.TheVariants.{Ethernet, Labels, Session, Cooked, Raw, Ipv4, Ipv6, Null, Loop}
+use Rattle.expr_meaning.specs.declared.place.Layer.TheVariants.{Ethernet, Labels, Session, Cooked}
 use Rattle.expr_meaning.specs.Carriages.{carriage_of}
 
 -- does the layer tell this protocol from others? Behind a label only IPv4 and IPv6 are told apart, and in Linux's headers a number up to

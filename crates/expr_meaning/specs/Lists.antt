@@ -1,5 +1,5 @@
 -- Lists: tests of one kind with the same qualifiers, of which neighbours that are joined by `or` are one test. `src and dst` makes none.
-use Rattle.std.specs.Prelude.{ℕ, ◌==◌, ◌&&◌, Bool, true, false, List, [], ◌∷◌}
+use Rattle.std.specs.Prelude.{ℕ, ◌==◌, ◌&&◌, Bool, false, List, [], ◌∷◌}
 use Rattle.expr_tree.specs.declared.test.Carrier.{Carrier}
 use Rattle.expr_tree.specs.declared.test.Carrier.TheVariants as carrier
 use Rattle.expr_tree.specs.declared.test.Header.{Header}
