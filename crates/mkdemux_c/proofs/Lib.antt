@@ -1,1 +1,2 @@
 pub mod PathLengths
+pub mod Expressions

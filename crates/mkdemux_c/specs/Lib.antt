@@ -3,3 +3,4 @@ pub mod Rooms
 pub mod Refusals
 pub mod Readings
 pub mod Assemblies
+pub mod Compilings

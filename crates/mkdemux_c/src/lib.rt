@@ -8,6 +8,7 @@
 mod answers;
 mod assembling;
 mod capturing;
+mod compiling;
 mod predecoding;
 mod reading;
 mod room;
