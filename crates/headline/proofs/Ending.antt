@@ -38,7 +38,10 @@ use Rattle.world_model.specs.Committed.{log_of}
 use Rattle.headline.specs.Shown.{replicas_of_cores}
 use Rattle.headline.specs.Ended.{HaveEnded}
 use Rattle.headline.proofs.OneList.{joined_tables, joined_begun, joined_received, joined_decided, joined_newest, joined_none_begun, joined_none_decided, joined_none_received}
-use Rattle.core_machine.proofs.Told.{joined_deliver}
+use Rattle.core_machine.proofs.Told.{joined_deliver, one_list, list_run}
+use Rattle.headline.specs.Judged.{AreAllNamed}
+use Rattle.headline.proofs.Judging.{run_named}
+use Rattle.headline.proofs.Lawful.{Laws, AllDecided, run_laws}
 
 -- the requests of cores other than 0 are short, so each can be given to its core
 short_for : (core : ℕ) (op : Op) → (0 < core → HasShortProgram op) → AreShort core (op ∷ [])
@@ -129,6 +132,18 @@ module _ (limits : TableLimits) (budgets : List ℕ) (requests : List (ℕ × Op
 
   pub ended_deliver : (cores : List RingCore) → HaveEnded limits budgets requests jobs cores left → OfMachine cores Concludes → ListsRuns (histories_of cores) list → Delivers limits (log_of list) list
   ended_deliver cores e computes lists = (said cores e computes lists).delivers
+
+  pub ended_laws : (cores : List RingCore) → HaveEnded limits budgets requests jobs cores left → OfMachine cores Concludes → ListsRuns (histories_of cores) list → Laws limits budgets list × (AllDecided list → AreAllNamed list)
+  ended_laws cores e computes lists = by_machine budgets cores e.machine computes lists
+    where
+      by_machine : (bs : List ℕ) (cores : List RingCore) → IsMachineOf limits bs cores → OfMachine cores Concludes → ListsRuns (histories_of cores) list → Laws limits bs list × (AllDecided list → AreAllNamed list)
+      by_machine [] cores m computes lists = absurd m
+      by_machine (b ∷ bs) [] m computes lists = absurd m
+      by_machine (b ∷ bs) (first ∷ others) m computes lists =
+          let con = computes limits b bs first others refl m in
+          let l = one_list limits b bs first others list con lists in
+          let run = list_run limits b bs first others list con l in
+          (run_laws limits b bs list l.run.world run, run_named limits b bs list l.run.world run)
 
   pub ended_tables : (cores : List RingCore) (replicas : List ReplicaState) → replicas ≡ replicas_of_cores cores → HaveEnded limits budgets requests jobs cores left → OfMachine cores Concludes → ListsRuns (histories_of cores) list → ShowTables limits list replicas
   ended_tables cores replicas is e computes lists = subst (ShowTables limits list) (sym is) (said cores e computes lists).tables

@@ -8,3 +8,9 @@ pub mod Counts
 pub mod Parts
 pub mod Stepping
 pub mod Waking
+pub mod Accounts
+pub mod Sources
+pub mod Growth
+pub mod Dealing
+pub mod Judging
+pub mod Lawful

@@ -74,7 +74,7 @@ count_same p same (x ∷ xs) =
     let listed_first : count_by (λ (d : Done). p d.event d.answer) (as_listed (x ∷ xs)) ≡ cond (p (as_short x.done.event x.done.answer) x.done.answer) 1 0 + count_by (λ (d : Done). p d.event d.answer) (as_listed xs) = count_first (λ (d : Done). p d.event d.answer) (listed x) (as_listed xs) in
     omega (arith, first, listed_first, ap {B = ℕ} (λ (b : Bool). cond b 1 0) (same x.done.event x.done.answer), count_same p same xs)
 
-version_same : (core : ℕ) (xs : List Stamped) → version_of core (unstamped xs) ≡ version_of core (as_listed xs)
+pub version_same : (core : ℕ) (xs : List Stamped) → version_of core (unstamped xs) ≡ version_of core (as_listed xs)
 version_same core xs = count_same (commits_at core) (commits_same core) xs
 
 pub started_same : (core : ℕ) (xs : List Stamped) → started_for core (unstamped xs) ≡ started_for core (as_listed xs)

@@ -54,6 +54,11 @@ use Rattle.headline.proofs.OneList.{joined_tables, joined_begun, joined_none_beg
 use Rattle.core_machine.proofs.Told.{joined_deliver}
 use Rattle.headline.proofs.Listed.{started_same, begun_in_same, tables_same, delivers_same, starts_one, run_starts, merged_lists, events_part, log_same}
 use Rattle.headline.proofs.Counts.{commits, quiet_runs, Counts, submits_of_same, nothing_left, order_one}
+use Rattle.core_machine.specs.Booting.{IsMachineOf}
+use Rattle.core_machine.proofs.BootedMachines.{machine_of}
+use Rattle.headline.specs.Judged.{AreAllNamed}
+use Rattle.headline.proofs.Judging.{run_named}
+use Rattle.headline.proofs.Lawful.{Laws, AllDecided, run_laws, laws_parts, named_parts}
 use Rattle.headline.proofs.Parts.{Says, parts_say, parts_log}
 
 -- The steps can be done
@@ -139,6 +144,18 @@ module _ (limits : TableLimits) (budget : ℕ) (budgets : List ℕ) (steps : Lis
       (tables_same limits merged (replicas_of_cores (first ∷ others)) (joined_tables limits budget budgets first others (as_listed merged) con lists))
       (delivers_same limits merged (joined_deliver limits budget budgets first others (as_listed merged) con lists))
 
+  same_log : StartOneByOne (events_of steps outcomes) → log_of (events_of steps outcomes) ≡ log_of (unstamped merged)
+  same_log order =
+      let quiet : (core : ℕ) → Silent (commits core) core (unstamped merged) = λ core. quiet_runs core (boot limits budget budgets) con.right.run.world merged con.right.run.run in
+      parts_log (events_of steps outcomes) merged told_parts quiet order (starts_one merged (run_starts limits budget budgets (as_listed merged) con.right.run.world con.right.run.run))
+
+  -- and keeps to the laws of runs
+  laws : StartOneByOne (events_of steps outcomes) → Laws limits (budget ∷ budgets) (events_of steps outcomes)
+  laws order = laws_parts limits (budget ∷ budgets) (events_of steps outcomes) merged told_parts (same_log order) (run_laws limits budget budgets (as_listed merged) con.right.run.world con.right.run.run)
+
+  named : StartOneByOne (events_of steps outcomes) → AllDecided (events_of steps outcomes) → AreAllNamed (events_of steps outcomes)
+  named order = named_parts limits (budget ∷ budgets) (events_of steps outcomes) merged told_parts (same_log order) (run_named limits budget budgets (as_listed merged) con.right.run.world con.right.run.run)
+
   begun_each : ((i : ℕ) (c : RingCore) → slice_get old i ≡ Some c → c.pending ≡ []) → (core : ℕ) → IsPrefix (begun_in core (events_of steps outcomes)) (of_core asked_op core steps outcomes)
   begun_each idle core = subst (λ (ops : List Op). IsPrefix ops (of_core asked_op core steps outcomes)) (sym whole) (by_place (cases_lt core (length (first ∷ others))))
     where
@@ -162,9 +179,7 @@ module _ (limits : TableLimits) (budget : ℕ) (budgets : List ℕ) (steps : Lis
   -- and where the cores are at rest, all of it is decided
   newest_each : StartOneByOne (events_of steps outcomes) → IsIdle0 first.part → All (λ (r : ReplicaState). r.shown.version ≡ length (log_of (events_of steps outcomes))) (replicas_of_cores (first ∷ others))
   newest_each order idle =
-      let quiet : (core : ℕ) → Silent (commits core) core (unstamped merged) = λ core. quiet_runs core (boot limits budget budgets) con.right.run.world merged con.right.run.run in
-      let ordered = starts_one merged (run_starts limits budget budgets (as_listed merged) con.right.run.world con.right.run.run) in
-      let log = parts_log (events_of steps outcomes) merged told_parts quiet order ordered ∙ log_same merged in
+      let log = same_log order ∙ log_same merged in
       subst (λ (l : List Op). All (λ (r : ReplicaState). r.shown.version ≡ length l) (replicas_of_cores (first ∷ others))) (sym log)
       (joined_newest limits budget budgets first others (as_listed merged) con (merged_lists limits budget budgets first others con) idle)
 
@@ -197,6 +212,11 @@ says_for : (limits : TableLimits) (budget : ℕ) (budgets : List ℕ) (steps : L
     → Conclude limits budget budgets cores → StartOneByOne (events_of steps outcomes) → Says limits (events_of steps outcomes) (replicas_of_cores cores)
 says_for limits budget budgets steps outcomes old [] inside nothing driven con order = absurd con
 says_for limits budget budgets steps outcomes old (first ∷ others) inside nothing driven con order = says limits budget budgets steps outcomes old first others inside nothing driven con order
+
+laws_for : (limits : TableLimits) (budget : ℕ) (budgets : List ℕ) (steps : List CoreStep) (outcomes : List StepOutcome) (old cores : List RingCore) → All (λ (s : CoreStep). s.core < length old) steps → HaveNoHistories old → AreDriven steps outcomes old cores
+    → Conclude limits budget budgets cores → StartOneByOne (events_of steps outcomes) → Laws limits (budget ∷ budgets) (events_of steps outcomes) × (AllDecided (events_of steps outcomes) → AreAllNamed (events_of steps outcomes))
+laws_for limits budget budgets steps outcomes old [] inside nothing driven con order = absurd con
+laws_for limits budget budgets steps outcomes old (first ∷ others) inside nothing driven con order = (laws limits budget budgets steps outcomes old first others inside nothing driven con order, named limits budget budgets steps outcomes old first others inside nothing driven con order)
 
 begun_for : (limits : TableLimits) (budget : ℕ) (budgets : List ℕ) (steps : List CoreStep) (outcomes : List StepOutcome) (old cores : List RingCore) → All (λ (s : CoreStep). s.core < length old) steps → HaveNoHistories old → ((i : ℕ) (c : RingCore) → slice_get old i ≡ Some c → c.pending ≡ []) → AreDriven steps outcomes old cores
     → Conclude limits budget budgets cores → (core : ℕ) → IsPrefix (begun_in core (events_of steps outcomes)) (of_core asked_op core steps outcomes)
@@ -321,6 +341,40 @@ says_after limits n steps outcomes cores slice new is long inside nothing driven
     let drives : AreDriven steps outcomes cores new = subst (λ (old : List RingCore). AreDriven steps outcomes old new) is driven in
     subst (λ (left : List RingCore). Says limits (events_of steps outcomes) (replicas_of_cores left)) (sym (written_back n new cores drives.all long))
     (says_for limits con.0 con.1 steps outcomes cores new inside (no_histories [] cores cores nothing (driven_none cores)) drives con.2 order)
+
+-- The budgets of a machine
+
+pub its_machine : (limits : TableLimits) (cores slice : List RingCore) (given : List ℕ) → slice ≡ cores → IsMachineOf limits given cores → (budget : ℕ) × (budgets : List ℕ) × IsMachine limits budget budgets slice
+its_machine limits cores slice given is machine = machine_of limits given slice (subst (λ (l : List RingCore). IsMachineOf limits given l) (sym is) machine)
+
+same_lists : (xs ys : List ℕ) → length xs ≡ length ys → ((i a b : ℕ) → slice_get xs i ≡ Some a → slice_get ys i ≡ Some b → a ≡ b) → xs ≡ ys
+same_lists [] [] long same = refl
+same_lists [] (y ∷ ys) long same = absurd (omega (arith, long))
+same_lists (x ∷ xs) [] long same = absurd (omega (arith, long))
+same_lists (x ∷ xs) (y ∷ ys) long same = rw (same 0 x y refl refl, same_lists xs ys (omega (arith, long)) (λ i a b at at'. same (suc i) a b at at')) refl
+
+one_machine : (limits : TableLimits) (b b' : ℕ) (bs bs' : List ℕ) (cores : List RingCore) → IsMachine limits b bs cores → IsMachine limits b' bs' cores → (b ∷ bs) ≡ (b' ∷ bs')
+one_machine limits b b' bs bs' [] m m' = absurd m
+one_machine limits b b' bs bs' (first ∷ others) m m' = rw (
+  sym m.place.budget_is ∙ m'.place.budget_is,
+  same_lists bs bs' (sym m.all ∙ m'.all) (λ i a a' at at'. (
+      let c = get_at others i (omega (arith, slice_get_within bs i a at, m.all)) in
+      sym (m.peers i a c.0 at c.1).place.budget_is ∙ (m'.peers i a' c.0 at' c.1).place.budget_is
+      )),
+) refl
+
+-- those of the cores that were booted are those of the cores that did the steps
+its_budgets : (limits : TableLimits) (given : List ℕ) (steps : List CoreStep) (outcomes : List StepOutcome) (cores slice new : List RingCore) → slice ≡ cores → IsMachineOf limits given cores → (done : AreDone limits steps outcomes slice new) → done.budget ∷ done.budgets ≡ given
+its_budgets limits [] steps outcomes cores slice new is machine done = absurd machine
+its_budgets limits (b ∷ bs) steps outcomes cores slice new is machine done =
+    let same : AreSameCores slice new = record { all = done.driven.all; each = λ i c d at at'. (done.driven.each i c d at at').same } in
+    one_machine limits done.budget b done.budgets bs new done.machine (machine_ran limits b bs slice new (subst (λ (l : List RingCore). IsMachine limits b bs l) (sym is) machine) same)
+
+pub laws_after : (limits : TableLimits) (given : List ℕ) (steps : List CoreStep) (outcomes : List StepOutcome) (cores slice new : List RingCore) → slice ≡ cores → All (λ (s : CoreStep). s.core < length cores) steps → All HasDoneNothing cores → IsMachineOf limits given cores
+    → AreDone limits steps outcomes slice new → Laws limits given (events_of steps outcomes) × (AllDecided (events_of steps outcomes) → AreAllNamed (events_of steps outcomes))
+laws_after limits given steps outcomes cores slice new is inside nothing machine done =
+    let l = laws_for limits done.budget done.budgets steps outcomes cores new inside (no_histories [] cores cores nothing (driven_none cores)) (subst (λ (old : List RingCore). AreDriven steps outcomes old new) is done.driven) done.con done.order in
+    (subst (λ (bs : List ℕ). Laws limits bs (events_of steps outcomes)) (its_budgets limits given steps outcomes cores slice new is machine done) l.0, l.1)
 
 pub begun_after : (limits : TableLimits) (steps : List CoreStep) (outcomes : List StepOutcome) (cores slice new : List RingCore) → slice ≡ cores → All (λ (s : CoreStep). s.core < length cores) steps → All HasDoneNothing cores → AreDriven steps outcomes slice new
     → ((budget : ℕ) × (budgets : List ℕ) × Conclude limits budget budgets new) → (core : ℕ) → IsPrefix (begun_in core (events_of steps outcomes)) (of_core asked_op core steps outcomes)

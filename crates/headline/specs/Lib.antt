@@ -1,5 +1,6 @@
 pub mod Headline
 pub mod Decided
+pub mod Judged
 pub mod Shown
 pub mod Ended
 pub mod Served

@@ -1,7 +1,8 @@
 //! The headline, as the contracts of a few calls that make the program's own calls, by what can be seen alone.
 //!
 //! Every accepted filter ends on every packet within as many instructions as it has: `filter`. Replicas at one version hold
-//! equal tables, and each packet goes to exactly the endpoints whose filters accept it: `one_by_one`, `threads`, and `serve`.
+//! equal tables, and each packet goes to exactly the endpoints whose filters accept it: `one_by_one`, `threads`, `serve_steps` at any
+//! moment, and `serve`.
 #![tactic(auto)]
 
 mod fault;
@@ -22,6 +23,6 @@ pub use machine::{Did, one_by_one};
 pub use replicas::Replicas;
 pub use running::threads;
 pub use rx_queue::Job;
-pub use serving::{Served, serve};
+pub use serving::{Served, Stepped, serve, serve_steps};
 pub use table_replica::Replica;
 pub use world_events::{Answer, Done, Event, WorldFault};

@@ -8,6 +8,7 @@ ghost use Rattle.world_model.specs.Decisions.{Delivers};
 ghost use Rattle.world_model.specs.Refusals.{Extends};
 ghost use Rattle.headline.specs.declared.fault.Fault.TheVariants.{CoreCount};
 ghost use Rattle.headline.specs.Headline.{ShowTables, AreEqualByVersion};
+ghost use Rattle.headline.specs.Judged.{AreRightful, AreAllowed, AreJudged, AreCommittedOnce};
 ghost use Rattle.world_model.specs.Committed.{log_of};
 
 use crate::fault::Fault;
@@ -42,6 +43,14 @@ pub fn one_by_one(
     ensures tables { IfOk result (λ did. ShowTables limits did.events.items did.replicas) }
     ensures equal { IfOk result (λ did. AreEqualByVersion did.replicas) }
     ensures delivers { IfOk result (λ did. Delivers limits (log_of did.events.items) did.events.items) }
+
+    // What is in the log was allowed there, and each filter that a table lists is its owner's by right.
+    ensures rightful { IfOk result (λ did. AreRightful limits (log_of did.events.items)) }
+    ensures allowed { IfOk result (λ did. AreAllowed limits budgets.now (log_of did.events.items)) }
+
+    // The n-th decision of a core is on its n-th request, and no request is committed twice.
+    ensures judged { IfOk result (λ did. AreJudged limits budgets.now did.events.items) }
+    ensures once { IfOk result (λ did. AreCommittedOnce did.events.items) }
 {
     let mut world = match World::boot_with_limits(alloc, limits, budgets) {
         Ok(world) => world,

@@ -10,6 +10,7 @@ ghost use Rattle.headline.specs.Decided.{decided_in};
 ghost use Rattle.core_threads.specs.Settling.{HasHalted};
 ghost use Rattle.core_threads.specs.declared.halt.Halt.{Halt};
 ghost use Rattle.headline.specs.Headline.{ShowTables, AreEqualByVersion, begun_in, received_in};
+ghost use Rattle.headline.specs.Judged.{AreRightful, AreAllowed, AreJudged, AreCommittedOnce, AreAllNamed};
 ghost use Rattle.world_model.specs.Committed.{log_of};
 ghost use Rattle.headline.specs.Ended.{HaveEnded};
 
@@ -53,7 +54,14 @@ pub fn threads<R: Threads + Wait + Clock + Sync>(
     ensures delivers { IfOk result (λ ran. Delivers limits (log_of ran.0.events.items) ran.0.events.items) }
     ensures newest { IfOk result (λ ran. All (λ replica. replica.shown.version ≡ length (log_of ran.0.events.items)) ran.0.replicas) }
 
-    // Each request is decided: the n-th decision of a core is that on its n-th request.
+    // What is in the log was allowed there, and each filter that a table lists is its owner's by right.
+    ensures rightful { IfOk result (λ ran. AreRightful limits (log_of ran.0.events.items)) }
+    ensures allowed { IfOk result (λ ran. AreAllowed limits budgets.now (log_of ran.0.events.items)) }
+
+    // Each request is decided: the n-th decision of a core is on its n-th request. No request is committed twice, and nothing else is.
+    ensures judged { IfOk result (λ ran. AreJudged limits budgets.now ran.0.events.items) }
+    ensures once { IfOk result (λ ran. AreCommittedOnce ran.0.events.items) }
+    ensures named { IfOk result (λ ran. AreAllNamed ran.0.events.items) }
     ensures decided { IfOk result (λ ran. (core : ℕ) → length (decided_in core ran.0.events.items) ≡ length (items_for core requests.items)) }
 
     // Of each core, each request is begun once, and each job is received or left once, in the order in which they were given.

@@ -24,6 +24,7 @@ ghost use Rattle.core_machine.specs.Driving.{IsStep, IsRunning, AreDriven};
 ghost use Rattle.headline.specs.declared.fault.Fault.TheVariants.{CoreCount, NoMemory};
 ghost use Rattle.headline.specs.Decided.{decided_in};
 ghost use Rattle.headline.specs.Headline.{ShowTables, AreEqualByVersion, begun_in};
+ghost use Rattle.headline.specs.Judged.{AreRightful, AreAllowed, AreJudged, AreCommittedOnce, AreAllNamed};
 ghost use Rattle.world_model.specs.Committed.{log_of};
 ghost use Rattle.headline.specs.Served.{EndsHalted, events_of};
 ghost use Rattle.headline.specs.Waking.{AreDone, Halts, IsTurnOf, awake_of, turn_of_core};
@@ -69,6 +70,10 @@ pub fn serve(
     ensures equal { IfOk result (λ served. AreEqualByVersion served.replicas) }
     ensures delivers { IfOk result (λ served. let events = events_of (steps.items ++ served.turns.items) served.outcomes.items in Delivers limits (log_of events) events) }
 
+    // What is in the log was allowed there, and each filter that a table lists is its owner's by right.
+    ensures rightful { IfOk result (λ served. AreRightful limits (log_of (events_of (steps.items ++ served.turns.items) served.outcomes.items))) }
+    ensures allowed { IfOk result (λ served. AreAllowed limits budgets.now (log_of (events_of (steps.items ++ served.turns.items) served.outcomes.items))) }
+
     // Each outcome is one of its step, and tells events of the step's core alone. The turns receive no packet.
     ensures answered { IfOk result (λ served. AllZip (λ step outcome. IsOf step.task outcome) (steps.items ++ served.turns.items) served.outcomes.items) }
     ensures own { IfOk result (λ served. AllZip (λ step outcome. All (λ done. core_of done.event ≡ step.core) (did step.core step.task outcome)) (steps.items ++ served.turns.items) served.outcomes.items) }
@@ -80,16 +85,20 @@ pub fn serve(
     // What a core begins are the requests that it was asked, in the order of the steps.
     ensures begun { IfOk result (λ served. (core : ℕ) → IsPrefix (begun_in core (events_of (steps.items ++ served.turns.items) served.outcomes.items)) (of_core asked_op core (steps.items ++ served.turns.items) served.outcomes.items)) }
 
-    // Unless a core halted each request is decided, and all replicas show the whole log.
+    // The n-th decision of a core is on its n-th request, and no request is committed twice.
+    ensures judged { IfOk result (λ served. AreJudged limits budgets.now (events_of (steps.items ++ served.turns.items) served.outcomes.items)) }
+    ensures once { IfOk result (λ served. AreCommittedOnce (events_of (steps.items ++ served.turns.items) served.outcomes.items)) }
+
+    // Unless a core halted each request is decided, nothing else is committed, and all replicas show the whole log.
     ensures decided { IfOk result (λ served. served.halted ≡ None → (core : ℕ) → length (decided_in core (events_of (steps.items ++ served.turns.items) served.outcomes.items)) ≡ length (of_core asked_op core (steps.items ++ served.turns.items) served.outcomes.items)) }
+    ensures named { IfOk result (λ served. served.halted ≡ None → AreAllNamed (events_of (steps.items ++ served.turns.items) served.outcomes.items)) }
     ensures newest { IfOk result (λ served. served.halted ≡ None → All (λ replica. replica.shown.version ≡ length (log_of (events_of (steps.items ++ served.turns.items) served.outcomes.items))) served.replicas) }
     ensures halted { IfOk result (λ served. IfSome served.halted (λ core. core < length budgets.now)) }
     ensures halts { IfOk result (λ served. IfSome served.halted (EndsHalted served.turns.items served.outcomes.items)) }
 {
     let mut cores = match boot_machine(alloc, limits, budgets) {
         Ok(cores) => cores,
-        Err(BootFault::CoreCount) => return Err(Fault::CoreCount),
-        Err(BootFault::NoMemory) => return Err(Fault::NoMemory),
+        Err(fault) => return Err(fault_of(fault)),
     };
     match serve_all(alloc, cores.as_mut_slice(), steps) {
         Ok(work) => Ok(Served {
@@ -104,6 +113,79 @@ pub fn serve(
             drop(cores);
             Err(Fault::NoMemory)
         }
+    }
+}
+
+/// What came of steps, and what the cores have after them, at rest or in the middle of a change.
+#[derive(Drop)]
+pub struct Stepped {
+    /// What came of each step, in order.
+    pub outcomes: Vec<StepOutcome>,
+    /// Each core's replica of the table after the steps.
+    pub replicas: Replicas,
+}
+
+/// Boots a machine with these limits and a core for each budget, 1 to 64 of them, and does these steps on its cores, as `serve`
+/// does before its turns. So what is said of the replicas holds at any moment, whatever is under way.
+pub fn serve_steps(
+    alloc: Global,
+    limits: Limits,
+    budgets: &[u32],
+    steps: Vec<CoreStep>,
+) -> Result<Stepped, Fault>
+    requires steps { All (λ step. step.core < length budgets.now) steps.items }
+    requires short { All (λ step. (op : GhostOp) → step.task ≡ Ask op → 0 < step.core → HasShortProgram op) steps.items }
+    ensures count { result ≡ Err CoreCount ↔ ((length budgets.now ≡ 0) ⊎ (64 < length budgets.now)) }
+    ensures memory { 0 < length budgets.now → length budgets.now ≤ 64 → IsOkUnless result NoMemory }
+    ensures cores { IfOk result (λ stepped. length stepped.replicas ≡ length budgets.now) }
+    ensures tables { IfOk result (λ stepped. ShowTables limits (events_of steps.items stepped.outcomes.items) stepped.replicas) }
+    ensures equal { IfOk result (λ stepped. AreEqualByVersion stepped.replicas) }
+    ensures delivers { IfOk result (λ stepped. let events = events_of steps.items stepped.outcomes.items in Delivers limits (log_of events) events) }
+
+    // What is in the log was allowed there, and each filter that a table lists is its owner's by right.
+    ensures rightful { IfOk result (λ stepped. AreRightful limits (log_of (events_of steps.items stepped.outcomes.items))) }
+    ensures allowed { IfOk result (λ stepped. AreAllowed limits budgets.now (log_of (events_of steps.items stepped.outcomes.items))) }
+
+    // Each outcome is one of its step, and tells events of the step's core alone.
+    ensures answered { IfOk result (λ stepped. AllZip (λ step outcome. IsOf step.task outcome) steps.items stepped.outcomes.items) }
+    ensures own { IfOk result (λ stepped. AllZip (λ step outcome. All (λ done. core_of done.event ≡ step.core) (did step.core step.task outcome)) steps.items stepped.outcomes.items) }
+
+    // No core stops.
+    ensures running { IfOk result (λ stepped. All IsRunning stepped.outcomes.items) }
+
+    // What a core begins are the requests that it was asked, in the order of the steps.
+    ensures begun { IfOk result (λ stepped. (core : ℕ) → IsPrefix (begun_in core (events_of steps.items stepped.outcomes.items)) (of_core asked_op core steps.items stepped.outcomes.items)) }
+
+    // The n-th decision of a core is on its n-th request, and no request is committed twice.
+    ensures judged { IfOk result (λ stepped. AreJudged limits budgets.now (events_of steps.items stepped.outcomes.items)) }
+    ensures once { IfOk result (λ stepped. AreCommittedOnce (events_of steps.items stepped.outcomes.items)) }
+{
+    let mut cores = match boot_machine(alloc, limits, budgets) {
+        Ok(cores) => cores,
+        Err(fault) => return Err(fault_of(fault)),
+    };
+    match drive_each(alloc, cores.as_mut_slice(), steps) {
+        Ok(outcomes) => Ok(Stepped {
+            outcomes,
+            replicas: Replicas {
+                holder: Holder::Cores(cores),
+            },
+        }),
+        Err(AllocError) => {
+            drop(cores);
+            Err(Fault::NoMemory)
+        }
+    }
+}
+
+/// Why there is no machine.
+fn fault_of(fault: BootFault) -> Fault
+    ensures count { fault ≡ BootFault.CoreCount → result ≡ CoreCount }
+    ensures memory { fault ≡ BootFault.NoMemory → result ≡ NoMemory }
+{
+    match fault {
+        BootFault::CoreCount => Fault::CoreCount,
+        BootFault::NoMemory => Fault::NoMemory,
     }
 }
 

@@ -1,16 +1,16 @@
 //! Domain 1 opens endpoint 7 for all packets, and one comes.
 
-ghost use Rattle.std.specs.Prelude.{◌≡◌, ◌<◌, ℕ, All, length, IfOk};
+ghost use Rattle.std.specs.Prelude.{◌≡◌, ◌<◌, ℕ, All, length, IfOk, false};
 ghost use Rattle.filter_table.specs.declared.operation.Op.{Op as GhostOp};
 ghost use Rattle.filter_table.specs.Tables.{HasShortProgram};
 ghost use Rattle.world_events.specs.declared.event.Event.TheVariants.{Submit};
-ghost use Rattle.core_machine.specs.declared.step.Task.TheVariants.{Ask};
+ghost use Rattle.core_machine.specs.declared.step.Task.TheVariants.{Turn as GhostTurn, Ask};
 
 use crate::facts::equal;
 use filter_table::{Limits, Op};
 use headline::{
     CoreStep, Event, Fault, Job, Outcome, Replicas, StepOutcome, Task, filter, one_by_one, serve,
-    threads,
+    serve_steps, threads,
 };
 use pcap_reader::SharedPacket;
 use seq::Shared;
@@ -224,6 +224,43 @@ fn cores_that_served_come_to_rest(rt: HostRuntime) {
     equal(&rt, last_version(&served.replicas, 0), Some(1));
     equal(&rt, last_version(&served.replicas, 1), Some(1));
     drop(served);
+}
+
+/// A turn of this core.
+fn turn(core: u16) -> CoreStep
+    ensures core { result.core ≡ core }
+    ensures task { result.task ≡ GhostTurn false }
+{
+    CoreStep {
+        core,
+        task: Task::Turn { rx: false },
+    }
+}
+
+/// Core 1 asks. Core 0 prepares, takes the vote of core 1, and commits.
+fn half_of_a_change(rt: &impl Abort, alloc: Global) -> Vec<CoreStep>
+    ensures inside { All (λ step. step.core < 2) result.items }
+    ensures short { All (λ step. (op : GhostOp) → step.task ≡ Ask op → 0 < step.core → HasShortProgram op) result.items }
+{
+    let ask = CoreStep {
+        core: 1,
+        task: Task::Ask { op: create() },
+    };
+    vec![in alloc; ask, turn(1), turn(0), turn(1), turn(0)].expect(rt, "there is memory")
+}
+
+/// After the steps alone core 0 has committed, and core 1 has not.
+#[test]
+fn cores_are_seen_in_the_middle_of_a_change(rt: HostRuntime) {
+    let steps = half_of_a_change(&rt, rt.alloc());
+    let stepped = serve_steps(rt.alloc(), Limits::DEFAULT, &[100, 100], steps).expect(
+        &rt,
+        "there is memory",
+    );
+    equal(&rt, stepped.outcomes.len(), 5);
+    equal(&rt, last_version(&stepped.replicas, 0), Some(1));
+    equal(&rt, last_version(&stepped.replicas, 1), Some(0));
+    drop(stepped);
 }
 
 /// A machine has a core.

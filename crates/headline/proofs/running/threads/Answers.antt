@@ -1,4 +1,5 @@
-use Rattle.headline.proofs.Ending.{ended_machine, ended_deliver, ended_tables, ended_newest, ended_left, ended_begun, ended_decided, ended_received, count_replicas}
+use Rattle.std.proofs.Common.{arith, ap, length}
+use Rattle.headline.proofs.Ending.{ended_machine, ended_laws, ended_deliver, ended_tables, ended_newest, ended_left, ended_begun, ended_decided, ended_received, count_replicas}
 use Rattle.headline.proofs.Shown.{equal_shown}
 use Rattle.headline.proofs.running.threads.Goals as goal
 
@@ -46,3 +47,18 @@ returns-clause-newest g c =
 pub returns-clause-left : goal.returns-clause-left
 returns-clause-left g c =
     ended_left c.args.limits c.args.budgets.now c.args.requests.items c.args.jobs.items c.in_ok-cores.left.items c.in_ok-did.did.events.items c.in_ok-cores.cores.items c.in_ok-cores.ensures.ended c.in_ok-did.ensures.concludes c.in_ok-did.ensures.list
+
+pub returns-clause-rightful : goal.returns-clause-rightful
+returns-clause-rightful g c = (ended_laws c.args.limits c.args.budgets.now c.args.requests.items c.args.jobs.items c.in_ok-cores.left.items c.in_ok-did.did.events.items c.in_ok-cores.cores.items c.in_ok-cores.ensures.ended c.in_ok-did.ensures.concludes c.in_ok-did.ensures.list).0.rightful
+
+pub returns-clause-allowed : goal.returns-clause-allowed
+returns-clause-allowed g c = (ended_laws c.args.limits c.args.budgets.now c.args.requests.items c.args.jobs.items c.in_ok-cores.left.items c.in_ok-did.did.events.items c.in_ok-cores.cores.items c.in_ok-cores.ensures.ended c.in_ok-did.ensures.concludes c.in_ok-did.ensures.list).0.allowed
+
+pub returns-clause-judged : goal.returns-clause-judged
+returns-clause-judged g c = (ended_laws c.args.limits c.args.budgets.now c.args.requests.items c.args.jobs.items c.in_ok-cores.left.items c.in_ok-did.did.events.items c.in_ok-cores.cores.items c.in_ok-cores.ensures.ended c.in_ok-did.ensures.concludes c.in_ok-did.ensures.list).0.judged
+
+pub returns-clause-once : goal.returns-clause-once
+returns-clause-once g c = (ended_laws c.args.limits c.args.budgets.now c.args.requests.items c.args.jobs.items c.in_ok-cores.left.items c.in_ok-did.did.events.items c.in_ok-cores.cores.items c.in_ok-cores.ensures.ended c.in_ok-did.ensures.concludes c.in_ok-did.ensures.list).0.once
+
+pub returns-clause-named : goal.returns-clause-named
+returns-clause-named g c = (ended_laws c.args.limits c.args.budgets.now c.args.requests.items c.args.jobs.items c.in_ok-cores.left.items c.in_ok-did.did.events.items c.in_ok-cores.cores.items c.in_ok-cores.ensures.ended c.in_ok-did.ensures.concludes c.in_ok-did.ensures.list).1 (λ core. omega (arith, ap length (returns-clause-begun g c core), returns-clause-decided g c core))

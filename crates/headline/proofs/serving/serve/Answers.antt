@@ -1,16 +1,15 @@
-use Rattle.std.proofs.Common.{◌≡◌, ◌∙◌, ◌<◌, ◌≤◌, ◌⊎◌, ◌++◌, inl, inr, All, ℕ, List, length, ap, sym, subst, arith}
+use Rattle.std.proofs.Common.{◌≡◌, ◌∙◌, ◌<◌, ◌≤◌, ◌⊎◌, ◌++◌, inl, inr, All, ℕ, List, length, ap, sym, subst, arith, length-append}
 use Rattle.std.specs.Prelude.{IfSome}
 use Rattle.std.proofs.lemmas.Bool.{cases_lt}
 use Rattle.std.proofs.lemmas.List.Elements.{All-append}
 use Rattle.filter_table.specs.Limits.{TableLimits}
-use Rattle.core_machine.specs.Machines.{RingCore, IsMachine}
-use Rattle.core_machine.specs.Booting.{IsMachineOf}
-use Rattle.core_machine.proofs.BootedMachines.{machine_of}
+use Rattle.core_machine.specs.Machines.{RingCore}
 use Rattle.core_machine.specs.declared.step.CoreStep.{CoreStep}
+use Rattle.headline.specs.Headline.{begun_in}
 use Rattle.headline.specs.Served.{events_of}
 use Rattle.headline.specs.Waking.{IsTurnOf}
 use Rattle.headline.proofs.Shown.{equal_shown}
-use Rattle.headline.proofs.Stepping.{says_after, begun_after, own_after, newest_after, decided_after}
+use Rattle.headline.proofs.Stepping.{says_after, begun_after, own_after, newest_after, decided_after, its_machine, laws_after}
 use Rattle.headline.proofs.serving.serve.Goals as goal
 
 -- the steps and the turns after them are of cores of the machine
@@ -28,10 +27,6 @@ few cores slice budgets long is most = by_place (cases_lt 64 (length budgets))
     by_place : ((64 < length budgets) ⊎ (length budgets ≤ 64)) → length slice ≤ 64
     by_place (inl lt) = absurd (most lt)
     by_place (inr le) = omega (arith, le, long, ap length is)
-
--- they are a machine
-its_machine : (limits : TableLimits) (cores slice : List RingCore) (budgets : List ℕ) → slice ≡ cores → IsMachineOf limits budgets cores → (budget : ℕ) × (others : List ℕ) × IsMachine limits budget others slice
-its_machine limits cores slice budgets is machine = machine_of limits budgets slice (subst (λ (l : List RingCore). IsMachineOf limits budgets l) (sym is) machine)
 
 pub serve_all-requires-clause-machine : goal.serve_all-requires-clause-machine
 serve_all-requires-clause-machine c =
@@ -114,3 +109,48 @@ returns-in-Ok-serve_all-clause-newest c = λ none.
 pub returns-in-Ok-serve_all-clause-halted : goal.returns-in-Ok-serve_all-clause-halted
 returns-in-Ok-serve_all-clause-halted c =
     subst (λ (n : ℕ). IfSome c.in-Ok-serve_all.work.halted (λ core. core < n)) (ap (λ (l : List RingCore). length l) c.as_mut_slice.ensures.value ∙ c.in-Ok.ensures.cores) c.in-Ok-serve_all.ensures.halted
+
+pub returns-in-Ok-serve_all-clause-rightful : goal.returns-in-Ok-serve_all-clause-rightful
+returns-in-Ok-serve_all-clause-rightful c =
+    let e = c.in-Ok-serve_all.ensures in
+    let m = its_machine c.args.limits c.in-Ok.cores.items c.as_mut_slice.result.now c.args.budgets.now c.as_mut_slice.ensures.value c.in-Ok.ensures.machine in
+    let turns = c.in-Ok-serve_all.work.turns.items in
+    let within = inside c.args.steps.items turns c.in-Ok.cores.items c.as_mut_slice.result.now c.args.budgets.now c.in-Ok.ensures.cores c.as_mut_slice.ensures.value c.requires.steps e.turns in
+    (laws_after c.args.limits c.args.budgets.now (c.args.steps.items ++ turns) c.in-Ok-serve_all.work.outcomes.items c.in-Ok.cores.items c.as_mut_slice.result.now c.serve_all.new.cores c.as_mut_slice.ensures.value within c.in-Ok.ensures.nothing
+    c.in-Ok.ensures.machine (e.done c.args.limits m.0 m.1 m.2)).0.rightful
+
+pub returns-in-Ok-serve_all-clause-allowed : goal.returns-in-Ok-serve_all-clause-allowed
+returns-in-Ok-serve_all-clause-allowed c =
+    let e = c.in-Ok-serve_all.ensures in
+    let m = its_machine c.args.limits c.in-Ok.cores.items c.as_mut_slice.result.now c.args.budgets.now c.as_mut_slice.ensures.value c.in-Ok.ensures.machine in
+    let turns = c.in-Ok-serve_all.work.turns.items in
+    let within = inside c.args.steps.items turns c.in-Ok.cores.items c.as_mut_slice.result.now c.args.budgets.now c.in-Ok.ensures.cores c.as_mut_slice.ensures.value c.requires.steps e.turns in
+    (laws_after c.args.limits c.args.budgets.now (c.args.steps.items ++ turns) c.in-Ok-serve_all.work.outcomes.items c.in-Ok.cores.items c.as_mut_slice.result.now c.serve_all.new.cores c.as_mut_slice.ensures.value within c.in-Ok.ensures.nothing
+    c.in-Ok.ensures.machine (e.done c.args.limits m.0 m.1 m.2)).0.allowed
+
+pub returns-in-Ok-serve_all-clause-judged : goal.returns-in-Ok-serve_all-clause-judged
+returns-in-Ok-serve_all-clause-judged c =
+    let e = c.in-Ok-serve_all.ensures in
+    let m = its_machine c.args.limits c.in-Ok.cores.items c.as_mut_slice.result.now c.args.budgets.now c.as_mut_slice.ensures.value c.in-Ok.ensures.machine in
+    let turns = c.in-Ok-serve_all.work.turns.items in
+    let within = inside c.args.steps.items turns c.in-Ok.cores.items c.as_mut_slice.result.now c.args.budgets.now c.in-Ok.ensures.cores c.as_mut_slice.ensures.value c.requires.steps e.turns in
+    (laws_after c.args.limits c.args.budgets.now (c.args.steps.items ++ turns) c.in-Ok-serve_all.work.outcomes.items c.in-Ok.cores.items c.as_mut_slice.result.now c.serve_all.new.cores c.as_mut_slice.ensures.value within c.in-Ok.ensures.nothing
+    c.in-Ok.ensures.machine (e.done c.args.limits m.0 m.1 m.2)).0.judged
+
+pub returns-in-Ok-serve_all-clause-once : goal.returns-in-Ok-serve_all-clause-once
+returns-in-Ok-serve_all-clause-once c =
+    let e = c.in-Ok-serve_all.ensures in
+    let m = its_machine c.args.limits c.in-Ok.cores.items c.as_mut_slice.result.now c.args.budgets.now c.as_mut_slice.ensures.value c.in-Ok.ensures.machine in
+    let turns = c.in-Ok-serve_all.work.turns.items in
+    let within = inside c.args.steps.items turns c.in-Ok.cores.items c.as_mut_slice.result.now c.args.budgets.now c.in-Ok.ensures.cores c.as_mut_slice.ensures.value c.requires.steps e.turns in
+    (laws_after c.args.limits c.args.budgets.now (c.args.steps.items ++ turns) c.in-Ok-serve_all.work.outcomes.items c.in-Ok.cores.items c.as_mut_slice.result.now c.serve_all.new.cores c.as_mut_slice.ensures.value within c.in-Ok.ensures.nothing
+    c.in-Ok.ensures.machine (e.done c.args.limits m.0 m.1 m.2)).0.once
+
+pub returns-in-Ok-serve_all-clause-named : goal.returns-in-Ok-serve_all-clause-named
+returns-in-Ok-serve_all-clause-named c = λ none.
+    let e = c.in-Ok-serve_all.ensures in
+    let m = its_machine c.args.limits c.in-Ok.cores.items c.as_mut_slice.result.now c.args.budgets.now c.as_mut_slice.ensures.value c.in-Ok.ensures.machine in
+    let turns = c.in-Ok-serve_all.work.turns.items in
+    let within = inside c.args.steps.items turns c.in-Ok.cores.items c.as_mut_slice.result.now c.args.budgets.now c.in-Ok.ensures.cores c.as_mut_slice.ensures.value c.requires.steps e.turns in
+    (laws_after c.args.limits c.args.budgets.now (c.args.steps.items ++ turns) c.in-Ok-serve_all.work.outcomes.items c.in-Ok.cores.items c.as_mut_slice.result.now c.serve_all.new.cores c.as_mut_slice.ensures.value within c.in-Ok.ensures.nothing
+    c.in-Ok.ensures.machine (e.done c.args.limits m.0 m.1 m.2)).1 (λ core. (let begun = returns-in-Ok-serve_all-clause-begun c core in omega (arith, begun, ap length begun.1, length-append (begun_in core (events_of (c.args.steps.items ++ turns) c.in-Ok-serve_all.work.outcomes.items)) begun.0, returns-in-Ok-serve_all-clause-decided c none core)))
