@@ -200,6 +200,8 @@ try_captures() {
         kind=${capture##*.}
         try "pcapgrep, $kind, arp" writes pcapgrep-arp.out $run "$made/pcapgrep" $capture "$arp"
         try "pcapgrep, $kind, tcp dst port 80" writes pcapgrep-port80.out $run "$made/pcapgrep" $capture "$port80"
+        try "pcapgrep, $kind, an expression" writes pcapgrep-arp.out $run "$made/pcapgrep" $capture arp
+        try "pcapgrep, $kind, an expression with a port" writes pcapgrep-port80.out $run "$made/pcapgrep" $capture "tcp dst port 80"
         try "pcapgrep, each front of $kind" shows_fronts pcapgrep-arp.out $capture "$arp"
         [ -z "$watch" ] || try "pcapgrep, $kind, under valgrind" writes pcapgrep-arp.out $watch "$made/pcapgrep" $capture "$arp"
     done
@@ -251,6 +253,11 @@ shows_cores() {
     block ../docs/c-library.md 2 > "$made/cores.c" && $cc $strict "$headers" -o "$made/cores" "$made/cores.c" "$libs/libmkdemux_cores.a" &&
         sed -n '/^```text$/,/^```$/p' ../docs/c-library.md | sed '1d;/^```$/,$d' > "$made/wanted" && $run "$made/cores" > "$made/shown" &&
         cmp "$made/shown" "$made/wanted"
+}
+
+# The page's loop over turns that give each answer.
+loops() {
+    block ../docs/c-library.md 3 > "$made/loop.h" && $cc $strict "$headers" "-I$made" -o "$made/loop" loop.c && $run "$made/loop"
 }
 
 # COMMAND..: an end of `live` in which all 20,000 packets were received and each receipt was right.
@@ -336,6 +343,7 @@ try_cores() {
     try "65,536 filters, and 64 cores" $run "$made/scale"
     [ -z "$watch" ] || try "1,000 filters, and 64 cores under valgrind" $watch "$made/scale" 1000
     try "the second program of docs/c-library.md" shows_cores
+    try "the loop of docs/c-library.md, over each answer of a turn" loops
     if [ -n "$pcap" ]; then
         try_live
     else

@@ -282,6 +282,7 @@ static void closed_bursts(mkdemux_core *core)
     struct mkdemux_kept room[1] = {{7, 7}};
     size_t counts[1] = {5}, done = 77;
     CHECK(mkdemux_receive_burst(core, &packet, 1, room, 1, counts, &done) == MKDEMUX_CORE_CLOSED && done == 0);
+    CHECK(mkdemux_receive_packet(core, &packet, room, 1, &done) == MKDEMUX_CORE_CLOSED && done == 0);
     CHECK(room[0].endpoint == 7 && room[0].kept == 7 && counts[0] == 5);
 }
 
@@ -369,8 +370,11 @@ static void closed(void)
     mkdemux_turned turned;
     struct mkdemux_kept room[1] = {{7, 7}};
     size_t count = 77;
+    uint64_t woken = 77;
     memset(&turned, 0x5a, sizeof turned);
-    CHECK(mkdemux_turn(&core, &turned) == MKDEMUX_CORE_CLOSED && turned.what == 0x5a5a5a5a);
+    CHECK(mkdemux_turn(&core, &turned) == MKDEMUX_CORE_CLOSED && turned.what == MKDEMUX_TURN_NOTHING);
+    CHECK(turned.made == MKDEMUX_MADE_NOTHING && turned.woken == 0 && turned.more == 0);
+    CHECK(mkdemux_turn_all(&core, &woken, NULL, NULL) == MKDEMUX_CORE_CLOSED && woken == 0);
     CHECK(mkdemux_ask_create(&core, 1, 2) == MKDEMUX_CORE_CLOSED);
     CHECK(mkdemux_ask_mint(&core, 1, 1, 2, MKDEMUX_RIGHT_BOTH) == MKDEMUX_CORE_CLOSED);
     CHECK(mkdemux_ask_revoke(&core, 1, 1) == MKDEMUX_CORE_CLOSED);
@@ -826,6 +830,36 @@ static void wakes_enough(size_t count)
     close_all(&machine);
 }
 
+/* The decisions that a core has told, which come in order. */
+static void hears(void *data, const mkdemux_turned *turned)
+{
+    uint64_t *last = data;
+    CHECK(turned->what == MKDEMUX_TURN_DECISION && turned->request == *last + 1);
+    *last = turned->request;
+}
+
+/* The same by mkdemux_turn_all: each request of each core is decided, once and in order. */
+static void turns_all(size_t count)
+{
+    struct machine machine;
+    uint64_t heard[MOST] = {0}, woken, named = (UINT64_C(1) << count) - 1;
+    size_t at, i;
+    boot(&machine, count, 20000);
+    for (at = 0; at < count; at++)
+        for (i = 0; i < 5; i++)
+            CHECK(!mkdemux_ask_create(&machine.cores[at], (uint16_t)at, (uint16_t)(8 * at + i)));
+    while (named) {
+        for (at = 0; !(named >> at & 1);)
+            at++;
+        CHECK(mkdemux_turn_all(&machine.cores[at], &woken, hears, &heard[at]) == MKDEMUX_CORE_IDLE && !(woken >> at & 1));
+        named = (named & ~(UINT64_C(1) << at)) | woken;
+    }
+    for (at = 0; at < count; at++)
+        CHECK(heard[at] == 5 && mkdemux_unanswered(&machine.cores[at]) == 0);
+    CHECK(mkdemux_turn_all(machine.cores, &woken, NULL, NULL) == MKDEMUX_CORE_IDLE && woken == 0);
+    close_all(&machine);
+}
+
 /* ---- Settling ---- */
 
 /* All cores of a machine have decided all requests, at one version. */
@@ -1167,6 +1201,8 @@ int main(void)
     names_its_peer();
     for (count = 1; count <= MOST; count++)
         wakes_enough(count);
+    for (count = 1; count <= MOST; count++)
+        turns_all(count);
     settles_no_other();
     for (count = 1; count <= MOST; count++)
         settles(count);

@@ -1,7 +1,7 @@
 /* Busy cores starve nobody. Of 3 to 8 cores, every set of busy ones always has two requests asked, so that another waits as soon as one
  * is decided; each is vetoed by the last core, so it takes a whole two-phase commit, or is refused at once. One core more asks once, in
- * round 100 of turns that each core takes in order, and core 0 begins its request after at most one of each other core. So it is
- * decided within so many rounds, whoever is busy. At the end nobody asks, and settling the machine decides all.
+ * round 100 of turns that each core takes in order. Once its request waits at core 0, at most one of each other core is begun before it.
+ * It is decided within so many rounds, whoever is busy. At the end nobody asks, and settling the machine decides all.
  * Prints the most rounds that one took; status 1 where one took more. */
 #include <stdio.h>
 #include <stdlib.h>

@@ -39,15 +39,16 @@
  * value is as the call before left it. A closed core, an impossible count of cores, a program that is too
  * long and running out of memory are answers.
  *
- * PROGRESS. If one caller holds all cores, mkdemux_settle ends with every request decided; that is proved. If threads
- * turn them, it is proved that all requests are decided after enough rounds, if in each round every core is turned at
- * least once, none lacks memory, and each core sees what was sent to it before. It is enough to turn each core after
- * it was asked, after another's turn named it, and after a turn of its own with `more`: where no core is left to turn
- * so, all are decided. Core 0 takes the requests of all cores in turn. NOT PROVED: that a thread runs, that one
+ * PROGRESS. If one caller holds all cores, mkdemux_settle ends with every request decided, unless a core lacks memory
+ * or a number; that is proved. If threads turn them, it is proved that all requests are decided after enough rounds,
+ * if in each round every core is turned at least once, none lacks memory, each core sees what was sent to it before,
+ * and no packet is received. Once each core was turned, it is enough to turn each after it was asked, after another's
+ * turn named it, and after a turn of its own with `more`: where no core is left to turn so, all are decided. Core 0
+ * takes the requests of all cores in turn. NOT PROVED: the same with packets between, that a thread runs, that one
  * thread sees what another wrote, and time. A core that nobody turns holds up every change of the machine; packets
  * are still received.
  *
- * MEMORY is taken by malloc and realloc and given back by free. mkdemux_boot, mkdemux_boot_limits, mkdemux_turn,
+ * MEMORY is taken by malloc and realloc and freed by free. mkdemux_boot, mkdemux_boot_limits, mkdemux_turn,
  * mkdemux_settle and mkdemux_ask_.. take memory, and so do mkdemux_receive and mkdemux_receive_burst for the first
  * packet after a change of the table. All other calls take none. How much a core holds depends on its table and on
  * the requests that it hasn't begun, and not on the number of packets or changes so far. */
@@ -237,8 +238,26 @@ typedef struct mkdemux_turned {
  * NO_MEMORY are answered only for a cause that holds. `woken` names each core that got a line or room from this
  * turn, and, unless the core had stopped before, no other; `more` is 1 exactly for OK and NO_MEMORY; with IDLE, what
  * waits to go out waits for room, and all that had come has been read, unless a message waits for such room.
- * `turned` is written, except for a closed core. Takes memory. */
+ * `turned` is written by every answer: for a closed core nothing was done, and `more` is 0. Takes memory. */
 uint32_t mkdemux_turn(mkdemux_core *core, mkdemux_turned *turned);
+
+/* Turns the core until a turn does nothing. `*woken` says which cores these turns named, as `turned.woken` does: each of
+ * them has to be turned, too. `decided`, if it isn't NULL, is called for each DECISION, in order, with `data`. The answer
+ * is that of the last turn. IDLE: the core has to be turned again after it was asked, or after another core's turn named
+ * it. NO_MEMORY: call again. CLOSED, STOPPED, SPENT: no further turn does anything. Takes memory. */
+MKDEMUX_CALL uint32_t mkdemux_turn_all(mkdemux_core *core, uint64_t *woken,
+    void (*decided)(void *data, const mkdemux_turned *turned), void *data)
+{
+    mkdemux_turned turned;
+    uint32_t answer;
+    *woken = 0;
+    do {
+        answer = mkdemux_turn(core, &turned);
+        *woken |= turned.woken;
+        if (turned.what == MKDEMUX_TURN_DECISION && decided) decided(data, &turned);
+    } while (answer == MKDEMUX_CORE_OK);
+    return answer;
+}
 
 /* Turns all cores of one machine, round by round, until nothing is left to do. It waits for nobody, so it ends.
  * For a machine whose cores are all in one thread, and for the end of a run whose threads have stopped. No packet
@@ -252,7 +271,7 @@ uint32_t mkdemux_turn(mkdemux_core *core, mkdemux_turned *turned);
  * machines that have equal counts can't be told apart. No other call on any of them runs meanwhile.
  * Proved: all of this, and that it ends after at most one round more than the work ahead
  * (crates/core_machine/specs/Ahead.antt); in a round each core takes one turn. With OK the n-th decision of each core is
- * on its n-th request. Decisions aren't reported; the versions and mkdemux_unanswered show them. Takes memory. */
+ * on its n-th request. With OK, NO_MEMORY and SPENT cores at one version have equal tables. Decisions aren't reported; the versions and mkdemux_unanswered show them. Takes memory. */
 uint32_t mkdemux_settle(mkdemux_core *cores, size_t count);
 
 /* The version of the core's table: how many changes it has. 0 for a closed core. */
@@ -333,12 +352,22 @@ struct mkdemux_kept {
 uint32_t mkdemux_receive(mkdemux_core *core, const uint8_t *packet, size_t captured, uint32_t original,
     struct mkdemux_kept *room, size_t size, size_t *count);
 
-/* A packet in the caller's memory. */
+/* A packet in the caller's memory. (Both headers have it.) */
+#ifndef MKDEMUX_STRUCT_PACKET
+#define MKDEMUX_STRUCT_PACKET
 struct mkdemux_packet {
     const uint8_t *at; /* its captured bytes; NULL if there are none */
     size_t captured;   /* how many these are */
     uint32_t original; /* its original length */
 };
+#endif
+
+/* mkdemux_receive of a packet with its lengths. */
+MKDEMUX_CALL uint32_t mkdemux_receive_packet(mkdemux_core *core, const struct mkdemux_packet *packet, struct mkdemux_kept *room,
+    size_t size, size_t *count)
+{
+    return mkdemux_receive(core, packet->at, packet->captured, packet->original, room, size, count);
+}
 
 /* mkdemux_receive_burst calls this, with the length of each array. REQUIRED: `places` isn't less than `count`; only so
  * many of the counts are used as there are packets. */

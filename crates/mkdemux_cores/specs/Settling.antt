@@ -3,6 +3,7 @@ use Rattle.std.specs.Prelude.{◌≡◌, ◌≤◌, ◌+◌, ◌⊎◌, ℕ, Lis
 use Rattle.filter_table.specs.Limits.{TableLimits}
 use Rattle.mkdemux_cores.specs.declared.handle.CoreHandle.{CoreHandle}
 use Rattle.core_machine.specs.Machines.{RingCore, IsMachine, AreSameCores}
+use Rattle.core_machine.specs.Conclusions.{Conclude}
 use Rattle.core_machine.specs.declared.settling.Settled.{Settled}
 use Rattle.core_machine.specs.declared.settling.Settled.TheVariants.{AtRest, Spent, NoMemory, NoRoom}
 use Rattle.core_machine.specs.Rounds.{AllKeep, EndsFor, TakesRounds}
@@ -51,3 +52,5 @@ pub record Settles (answer : ℕ) (before after : List (Option RingCore)) : Type
   pub keeps : AllKeep old new
   pub ends : EndsFor ⊥ settled new
   pub rounds : TakesRounds settled old new
+  -- so cores at one version have equal tables, also where settling ended early
+  pub concludes : (limits : TableLimits) (budget : ℕ) (budgets : List ℕ) → IsMachine limits budget budgets old → Conclude limits budget budgets new

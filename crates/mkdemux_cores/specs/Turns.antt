@@ -26,6 +26,10 @@ IsNumber number core = length (begun core.history ++ core.pending) < 2 ^ 64 - 1 
 abbrev pub said : Turned → Turned
 said turned = record turned { woken = 0; more = 0 }
 
+-- no event, no core woken, and no further turn that may do something
+abbrev pub TellsNothing : Turned → Type 0
+TellsNothing turned = turned ≡ NOTHING
+
 -- The core did one event, which received no packet, and C is told the decision that it has on a request of the core, with its number, or that it
 -- has none.
 pub record HasDone (turned : Turned) (old new : RingCore) : Type 0 where

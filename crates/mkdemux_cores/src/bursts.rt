@@ -1,6 +1,6 @@
 //! Packets that come together.
 
-ghost use Rattle.std.specs.Prelude.{◌≡◌, ◌≢◌, ◌↔◌, None, length};
+ghost use Rattle.std.specs.Prelude.{◌≡◌, ◌≢◌, ◌≤◌, ◌↔◌, None, length};
 ghost use Rattle.mkdemux_cores.specs.Bursts.{IsBurst};
 ghost use Rattle.mkdemux_cores.specs.Leading.{Leads};
 ghost use Rattle.mkdemux_cores.specs.Receipts.{why_number};
@@ -24,7 +24,7 @@ pub struct Packet<'a> {
 /// Receives packets one after another, each as `mkdemux_receive` does, all at the core's version. The endpoints of each stand in the
 /// room after those of the one before, and `counts` has how many each gets. `done` is how many packets were received: all of them for
 /// `DONE`. Else it is 0 for `CLOSED`, and for `NO_ROOM`, `STOPPED`, `SPENT` or `NO_MEMORY` the next one wasn't received for this
-/// reason, and none after it. The rest of the room and of the counts stays as it was.
+/// reason, and none after it. The rest of the room and of the counts, of which there may be more than packets, stays as it was.
 #[unsafe(no_mangle)]
 pub extern "C" fn mkdemux_receive_packets(
     alloc: Global,
@@ -34,7 +34,7 @@ pub extern "C" fn mkdemux_receive_packets(
     counts: &mut [usize],
     done: &mut usize,
 ) -> u32
-    requires { length counts.old ≡ length packets.now }
+    requires { length packets.now ≤ length counts.old }
     ensures closed { result ≡ CLOSED ↔ core.old.core ≡ None }
     ensures received { result ≢ CLOSED → Leads (λ old new. IsBurst old new packets.now result done.new room.old room.new counts.old counts.new) core.old.core core.new.core }
     ensures unchanged { result ≡ CLOSED → (core.new.core ≡ None) × (done.new ≡ 0) × (room.new ≡ room.old) × (counts.new ≡ counts.old) }
@@ -56,7 +56,7 @@ fn receive_each(
     counts: &mut [usize],
     done: &mut usize,
 ) -> u32
-    requires { length counts.old ≡ length packets.now }
+    requires { length packets.now ≤ length counts.old }
     ensures open { result ≢ CLOSED }
     ensures received { IsBurst core.old core.new packets.now result done.new room.old room.new counts.old counts.new }
 {

@@ -2,7 +2,7 @@
 
 ghost use Rattle.std.specs.Prelude.{◌≡◌, ◌≢◌, ◌↔◌, ◌==◌, ◌||◌, cond, None};
 ghost use Rattle.mkdemux_cores.specs.Leading.{Leads};
-ghost use Rattle.mkdemux_cores.specs.Turns.{HasTurned, IsNumber};
+ghost use Rattle.mkdemux_cores.specs.Turns.{HasTurned, IsNumber, TellsNothing};
 
 use crate::answers::{CLOSED, DONE, IDLE, NO_MEMORY, SPENT, STOPPED};
 use crate::handle::CoreHandle;
@@ -13,15 +13,16 @@ use std::alloc::Global;
 /// Does one event of the core at most: it takes a message, or begins a request. 0 with what was done, else `IDLE`, `STOPPED`,
 /// `SPENT`, `NO_MEMORY` or `CLOSED`, and nothing is done. A decision is told with its number: the n-th is that on the n-th request
 /// that the core was asked. `turned` also says which cores may now do what they couldn't, and whether a further turn of this one may:
-/// after `IDLE` none does until another core's turn names this one, or it is asked. Takes memory only where there is a message or a
-/// request.
+/// after `IDLE` none does until another core's turn names this one, or it is asked. For `CLOSED` it says that nothing was done and that
+/// no turn may do more. Takes memory only where there is a message or a request.
 #[unsafe(no_mangle)]
 pub extern "C" fn mkdemux_turn(alloc: Global, core: &mut CoreHandle, turned: &mut Turned) -> u32
     ensures closed { result ≡ CLOSED ↔ core.old.core ≡ None }
-    ensures unchanged { result ≡ CLOSED → (core.new.core ≡ None) × (turned.new ≡ turned.old) }
+    ensures none { result ≡ CLOSED → (core.new.core ≡ None) × TellsNothing turned.new }
     ensures turned { result ≢ CLOSED → Leads (HasTurned result turned.new) core.old.core core.new.core }
 {
     let Some(mut open) = core.take(alloc) else {
+        *turned = NOTHING;
         return CLOSED;
     };
     let answer = turn_core(&mut open, turned);

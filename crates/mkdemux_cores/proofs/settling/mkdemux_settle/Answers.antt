@@ -23,4 +23,5 @@ returns-clause-settles c = λ _ _.
       keeps = e.keeps;
       ends = e.ends;
       rounds = e.rounds;
+      concludes = e.concludes;
     })
