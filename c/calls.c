@@ -221,6 +221,50 @@ static void assembles(void)
     CHECK(has_fault(text + 4 * 0, MKDEMUX_TOO_FAR, 1));
 }
 
+/* What an expression gives over a link type, in a room of eight instructions. */
+static struct mkdemux_compiled compile(const char *text, uint32_t link)
+{
+    memset(assembled, 0x5a, sizeof assembled);
+    return mkdemux_compile(text, strlen(text), link, 262144, assembled, COUNT(assembled));
+}
+
+static int has_fault_at(const char *text, uint32_t fault, uint32_t column, uint32_t width)
+{
+    struct mkdemux_compiled got = compile(text, 1);
+    return got.fault == fault && got.column == column && got.width == width && got.count == 0 && assembled[0].code == 0x5a5a;
+}
+
+/* Whether an expression is explained by these lines, also where there is room for three bytes alone. */
+static int is_explained(const char *text, uint32_t link, const char *lines)
+{
+    char message[256], few[4] = "....";
+    size_t length = mkdemux_explain(text, strlen(text), link, message, sizeof message);
+    return length == strlen(lines) && !memcmp(message, lines, length) && mkdemux_explain(text, strlen(text), link, few, 3) == length &&
+        !memcmp(few, lines, length < 3 ? length : 3) && few[3] == '.';
+}
+
+static void compiles(void)
+{
+    struct mkdemux_compiled got = compile("arp", 1);
+    CHECK(got.fault == MKDEMUX_DONE && got.count == 4 && got.column == 0 && got.width == 0);
+    CHECK(!memcmp(assembled, arp, sizeof arp) && assembled[4].code == 0x5a5a);
+    got = mkdemux_compile("arp", 3, 1, 262144, assembled, 3);
+    CHECK(got.fault == MKDEMUX_NO_ROOM && got.count == 4);
+    got = mkdemux_compile(NULL, 0, 1, 7, assembled, 8);
+    CHECK(got.fault == MKDEMUX_DONE && mkdemux_run(assembled, got.count, NULL, 0, 0).verdict == 7);
+    CHECK(compile("arp", 147).fault == MKDEMUX_EXPR_LINK);
+    CHECK(has_fault_at("tcp prt 80", MKDEMUX_EXPR_UNEXPECTED, 5, 3));
+    CHECK(has_fault_at("(tcp or udp", MKDEMUX_EXPR_PARENTHESIS, 1, 1));
+    CHECK(has_fault_at("tcp port 80 and", MKDEMUX_EXPR_ENDS, 16, 0));
+    CHECK(has_fault_at("ip protochain 6", MKDEMUX_EXPR_REFUSED, 4, 10));
+    CHECK(has_fault_at("dst port 70000", MKDEMUX_EXPR_RANGE, 10, 5));
+    CHECK(has_fault_at("vlan or ip", MKDEMUX_EXPR_MOVED, 9, 1));
+    CHECK(is_explained("arp", 1, ""));
+    CHECK(is_explained("arp", 147, "link type 147 has no expressions here\n"));
+    CHECK(is_explained("net 10.0.0.0/33", 1, "column 14: this mask and this address do not fit: a net has no bits beyond its mask\n"
+        "    net 10.0.0.0/33\n                 ^^\n"));
+}
+
 static void writes(void)
 {
     static char room[MKDEMUX_MAX_DDD];
@@ -245,6 +289,7 @@ static void opens(void)
     struct mkdemux_insn own[COUNT(arp)];
     uint8_t odd[sizeof arp + 1];
     struct mkdemux_place place = {7, 7, 7};
+    const struct mkdemux_packet packet = {arp_frame, 14, 60};
     uint32_t rule = 77;
     const mkdemux_program *program;
     memcpy(own, arp, sizeof arp);
@@ -253,6 +298,7 @@ static void opens(void)
     memset(own, 255, sizeof own); /* the copy runs */
     CHECK(program && mkdemux_filter(program, arp_frame, 60, 14) == 262144);
     CHECK(program && mkdemux_filter(program, NULL, 60, 0) == 0);
+    CHECK(program && mkdemux_filter_packet(program, &packet) == 262144);
     CHECK(program && program->cells);
     mkdemux_close(program);
     program = mkdemux_open(length_and_one, COUNT(length_and_one), &rule, NULL);
@@ -476,6 +522,15 @@ static void runs_out(void)
         refusals += (unsigned)more;
     }
     for (n = 1, more = 1; more; n++) {
+        struct mkdemux_compiled compiled;
+        memset(room, 0x5a, sizeof room);
+        let_fail(n);
+        compiled = mkdemux_compile("arp", 3, 1, 1, room, 8);
+        more = has_failed();
+        CHECK(more ? compiled.fault == MKDEMUX_NO_MEMORY && compiled.count == 0 && room[0].code == 0x5a5a : !compiled.fault && compiled.count == 4);
+        refusals += (unsigned)more;
+    }
+    for (n = 1, more = 1; more; n++) {
         memset(text, '?', sizeof text);
         let_fail(n);
         written = mkdemux_write_ddd(arp, COUNT(arp), text, sizeof text);
@@ -503,6 +558,7 @@ int main(void)
     predecodes();
     reads();
     assembles();
+    compiles();
     writes();
     opens();
     reads_savefile();

@@ -114,6 +114,42 @@ enum mkdemux_asm_fault {
     MKDEMUX_ASM_TOO_LONG = 8 /* more than 4,096 instructions */
 };
 
+/* The result of compiling a filter expression. */
+struct mkdemux_compiled {
+    uint32_t count;  /* instructions of the program, also for NO_ROOM; 0 for a fault */
+    uint32_t fault;  /* MKDEMUX_DONE, a number of mkdemux_expr_fault, MKDEMUX_NO_ROOM or MKDEMUX_NO_MEMORY */
+    uint32_t column; /* of a fault: from 1; 0 where it has none */
+    uint32_t width;  /* how many bytes of the text the fault is about */
+};
+enum mkdemux_expr_fault {
+    MKDEMUX_EXPR_CHARACTER = 1,   /* no word begins so */
+    MKDEMUX_EXPR_OCTAL = 2,       /* a number that begins with 0 has an 8 or a 9 */
+    MKDEMUX_EXPR_LARGE = 3,       /* a number is above 4294967295 */
+    MKDEMUX_EXPR_DOTTED = 4,      /* numbers joined by dots are no IPv4 address */
+    MKDEMUX_EXPR_WORDS = 5,       /* more than 8,192 words */
+    MKDEMUX_EXPR_REFUSED = 6,     /* a word of pcap-filter(7) that is refused; mkdemux_explain says why */
+    MKDEMUX_EXPR_PARENTHESIS = 7, /* a parenthesis or bracket has no other one */
+    MKDEMUX_EXPR_UNEXPECTED = 8,  /* a word that can't come here */
+    MKDEMUX_EXPR_ENDS = 9,        /* a test or a value is missing */
+    MKDEMUX_EXPR_QUALIFIER = 10,  /* the words before a value don't fit it */
+    MKDEMUX_EXPR_ADDRESS = 11,    /* no address */
+    MKDEMUX_EXPR_NAME = 12,       /* a name, where an address has to be */
+    MKDEMUX_EXPR_MASK = 13,       /* a mask and an address that don't fit */
+    MKDEMUX_EXPR_PORT = 14,       /* no port that is known by name */
+    MKDEMUX_EXPR_PROTOCOL = 15,   /* no protocol that is known by name */
+    MKDEMUX_EXPR_RANGE = 16,      /* a number that is too large here */
+    MKDEMUX_EXPR_SIZE = 17,       /* a load of neither 1, 2 nor 4 bytes */
+    MKDEMUX_EXPR_RANK = 18,       /* `%` or `^` next to another operator, without parentheses */
+    MKDEMUX_EXPR_TOO_DEEP = 19,   /* more than 200 levels */
+    MKDEMUX_EXPR_LAYER = 20,      /* packets of this link type, or after this tag, have none of this */
+    MKDEMUX_EXPR_MOVED = 21,      /* a test that also counts where the tag before it is missing */
+    MKDEMUX_EXPR_ZERO = 22,       /* a division by 0 */
+    MKDEMUX_EXPR_SHIFT = 23,      /* a shift by more than 31 bits */
+    MKDEMUX_EXPR_TOO_HARD = 24,   /* a comparison of two numbers of a packet, or of a calculated one: not supported yet */
+    MKDEMUX_EXPR_TOO_LONG = 25,   /* more than 4,096 instructions */
+    MKDEMUX_EXPR_LINK = 26        /* a link type that has no expressions */
+};
+
 /* The result of writing a program. */
 struct mkdemux_writing {
     size_t length;  /* bytes of the text, also for NO_ROOM; 0 for NO_MEMORY */
@@ -247,6 +283,21 @@ struct mkdemux_reading mkdemux_read(const char *text, size_t length, struct mkde
  * instruction. Takes memory. */
 struct mkdemux_assembly mkdemux_assemble(const char *text, size_t length, struct mkdemux_insn *insns, size_t room);
 
+/* Compiles a filter expression, as tcpdump takes it, over the link type with this number in captures (1: Ethernet), into
+ * at most `room` instructions. A packet that it accepts has the verdict `snaplen`. docs/expressions.md has the language,
+ * the link types, and where it differs from libpcap. A text of length 0 accepts every packet.
+ * Proved: for DONE the first `count` instructions are a program that mkdemux_verify accepts; on every packet its verdict
+ * is `snaplen` where the expression is true of the packet, and 0 where it is false or asks for a byte that isn't there;
+ * for NO_ROOM `count` says how many instructions are needed (4,096 at most); a text with a fault from CHARACTER to
+ * TOO_DEEP is no expression. For all answers but DONE the room stays as it was. Takes memory. */
+struct mkdemux_compiled mkdemux_compile(const char *text, size_t length, uint32_t link, uint32_t snaplen,
+    struct mkdemux_insn *insns, size_t room);
+
+/* Writes what is wrong with an expression over a link type into at most `room` bytes, without a final 0 byte, and says
+ * how many bytes that is: 0 where nothing is wrong. These are three lines: the column and what is wrong, the text, and
+ * marks below the bytes that the fault is about; or a line where the fault has no column. Takes memory. */
+size_t mkdemux_explain(const char *text, size_t length, uint32_t link, char *message, size_t room);
+
 /* Writes the decimal text of any program, as `tcpdump -ddd` does, into at most `room` bytes, without a final 0 byte.
  * Proved: for DONE the first `length` bytes are the text, and mkdemux_read gives the program back if it has at most
  * 4,096 instructions; for NO_ROOM `length` says how many bytes are needed. The rest of the room stays as it was. Takes
@@ -326,6 +377,22 @@ MKDEMUX_CALL uint32_t mkdemux_filter(const mkdemux_program *program, const uint8
 {
     if (program->cells) return mkdemux_cells_verdict(p, buflen, wirelen, program->cells, program->count);
     return mkdemux_verdict(program->code, program->count, p, buflen, wirelen);
+}
+
+/* A packet in the caller's memory. (Both headers have it.) */
+#ifndef MKDEMUX_STRUCT_PACKET
+#define MKDEMUX_STRUCT_PACKET
+struct mkdemux_packet {
+    const uint8_t *at; /* its captured bytes; NULL if there are none */
+    size_t captured;   /* how many these are */
+    uint32_t original; /* its original length */
+};
+#endif
+
+/* mkdemux_filter of a packet with its lengths, of which the captured one is below 2^32. */
+MKDEMUX_CALL uint32_t mkdemux_filter_packet(const mkdemux_program *program, const struct mkdemux_packet *packet)
+{
+    return mkdemux_filter(program, packet->at, packet->original, (uint32_t)packet->captured);
 }
 
 /* Answers as pcap_offline_filter does, for a program that was opened from fp->bf_insns and fp->bf_len: 0 if the packet

@@ -1,10 +1,13 @@
 /* Prints which packets of a capture a filter accepts. The capture is a pcap savefile or pcapng; it is read in pieces.
- * Usage: pcapgrep FILE CODE, a program as tcpdump -ddd writes it: pcapgrep t.pcapng "$(tcpdump -ddd -y EN10MB arp)".
+ * Usage: pcapgrep FILE FILTER, an expression for Ethernet: pcapgrep t.pcapng 'tcp port 80'; or a program as tcpdump -ddd writes it.
  * Each verdict is compared with that of a run whose steps are counted.
  * Status 0: no verdict differs; 1: one does; 2: a fault. */
+#include <ctype.h>
 #include <stdio.h>
 
 #include "mkdemux.h"
+
+enum { ETHERNET = 1 };
 
 static int fault(const char *what)
 {
@@ -106,18 +109,46 @@ static int filter(struct input *input, const mkdemux_program *program)
     return counts.differ != 0;
 }
 
-/* Reads a program's text, and opens the program. */
-static const mkdemux_program *open_code(const char *text)
+/* What is wrong with an expression. */
+static size_t explain(const char *text)
+{
+    char *message;
+    size_t size = mkdemux_explain(text, strlen(text), ETHERNET, NULL, 0);
+    message = (char *)malloc(size);
+    if (!message) {
+        fault("out of memory");
+        return 0;
+    }
+    mkdemux_explain(text, strlen(text), ETHERNET, message, size);
+    fwrite(message, 1, size, stderr);
+    free(message);
+    return 0;
+}
+
+/* The instructions of an expression, which begins with a letter, a parenthesis, `!` or a backslash; or of a decimal text. */
+static size_t instructions(const char *text, struct mkdemux_insn *insns)
+{
+    struct mkdemux_reading reading;
+    if (isalpha((unsigned char)*text) || (*text && strchr("(!\\", *text))) {
+        struct mkdemux_compiled compiled = mkdemux_compile(text, strlen(text), ETHERNET, 262144, insns, MKDEMUX_MAX_INSNS);
+        return compiled.fault ? explain(text) : compiled.count;
+    }
+    reading = mkdemux_read(text, strlen(text), insns, MKDEMUX_MAX_INSNS);
+    if (reading.fault)
+        fault("FILTER isn't a program in decimal text");
+    return reading.fault ? 0 : reading.count;
+}
+
+/* Reads a filter, and opens its program. */
+static const mkdemux_program *open_filter(const char *text)
 {
     static struct mkdemux_insn insns[MKDEMUX_MAX_INSNS];
-    struct mkdemux_reading reading = mkdemux_read(text, strlen(text), insns, MKDEMUX_MAX_INSNS);
+    size_t count = instructions(text, insns);
     const mkdemux_program *program = NULL;
     struct mkdemux_place place;
     uint32_t rule;
-    if (reading.fault) {
-        fault("CODE isn't a program in decimal text");
-    } else {
-        program = mkdemux_open(insns, reading.count, &rule, &place);
+    if (count) {
+        program = mkdemux_open(insns, count, &rule, &place);
         if (!program) fprintf(stderr, "pcapgrep: refused: %s at %u\n", mkdemux_rule_name(rule), place.place);
     }
     return program;
@@ -130,11 +161,11 @@ int main(int argc, char **argv)
     int status = 2;
     memset(&input, 0, sizeof input);
     if (argc != 3)
-        return fault("usage: pcapgrep FILE CODE");
+        return fault("usage: pcapgrep FILE FILTER");
     input.file = fopen(argv[1], "rb");
     if (!input.file)
         return fault("the file can't be opened");
-    program = open_code(argv[2]);
+    program = open_filter(argv[2]);
     if (program)
         status = filter(&input, program);
     mkdemux_close(program);

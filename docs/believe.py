@@ -42,8 +42,11 @@ HEADLINE = [
         "headline::one_by_one",
         "headline::threads",
         "headline::Replicas::get",
-    ], 647),
-    Part("The same of cores that serve in one thread, step by step", ["headline::serve"], 627),
+    ], 877),
+    Part("The same of cores that serve in one thread, step by step, in the middle of changes and at rest", [
+        "headline::serve_steps",
+        "headline::serve",
+    ], 933),
 ]
 WHOLE = Part("All parts of the headline", [root for part in HEADLINE for root in part.roots], 0)
 # What the program's own calls say beside the headline: each case of the protocol, and what rings and their ends show.
@@ -88,7 +91,8 @@ ROWS = {
     "filter_group": 225,
     "filter_asm": 530,
     "filter_cond": 330,
-    "expr_words": 700,
+    "expr_words": 1450,
+    "expr_meaning": 2115,
     "mkdemux_c": 260,
     "pcap_reader": 360,
     "capture_reader": 530,
@@ -104,7 +108,7 @@ ROWS = {
     "world_histories": 1140,
     "core_steps": 380,
     "world_core": 1340,
-    "headline": 680,
+    "headline": 950,
     "core_loop": 1740,
     "core_machine": 2670,
     "core_threads": 1630,
@@ -129,7 +133,7 @@ BY_HAND = {
 
 # The types of which each part stands with its comment. Of the others definitions say what the parts mean, or no clause speaks of
 # them.
-WITH_PARTS = {"Event", "Answer", "Decision", "Kept", "Job", "Fault", "Turn", "Outcome", "Did", "Served"}
+WITH_PARTS = {"Event", "Answer", "Decision", "Kept", "Job", "Fault", "Turn", "Outcome", "Did", "Stepped", "Served"}
 
 INTRODUCTION = """\
 # What has to be believed
@@ -140,8 +144,8 @@ that they cite, directly or by other definitions, and what else is trusted. `doc
 `./test` makes it again, compares, and fails where a part rests on more lines than are stated.
 
 `headline::filter` is about filters, `one_by_one` about a machine that does one event after another, `threads` about
-cores that are threads, and `serve` about cores that serve in one thread. They make calls of the program, and their
-clauses cite no case of the protocol and no ring.
+cores that are threads, `serve_steps` about cores that serve in one thread, at any moment, and `serve` about these after
+they came to rest. They make calls of the program, and their clauses cite no case of the protocol and no ring.
 
 Each definition stands once, after those that it cites; [definitions.md](definitions.md) says in plain words what each
 is and from which source. A type with a model stands as the value that its model names. Left out are the words `pub`,

@@ -179,7 +179,7 @@ class Sources:
         lines = path.read_text().split("\n")
         bare = [without_comment(line, file) for line in lines]
         scope = Scope(crate, {}, self.modules.setdefault((crate, modules), {}))
-        heads, indent = [], ""
+        heads, nested = [], False
         for at, line in enumerate(bare):
             if re.match(r"(pub )?(use|mod) ", line):
                 brought = imports_of(joined_statement(bare, at, lambda text: text.count("{") == text.count("}"))[0])
@@ -187,9 +187,10 @@ class Sources:
                 if line.startswith("pub use "):
                     self.shared.setdefault((crate, modules), {}).update(brought)
             elif line.startswith("module "):
-                indent = "  "
+                nested = True
                 heads.append((at, None))
-            elif line.startswith(indent) and (head := SPEC_HEAD.match(line.removeprefix(indent))):
+            elif head := SPEC_HEAD.match(line.removeprefix("  ") if nested else line):
+                nested = nested and line.startswith("  ")
                 heads.append((at, head))
         for (at, head), (end, _) in zip(heads, heads[1:] + [(len(lines), None)]):
             if head:

@@ -1,4 +1,5 @@
 -- What each test of a list is about.
+-- No public clause cites these.
 use Rattle.std.specs.Prelude.{◌+◌}
 use Rattle.expr_meaning.specs.declared.lists.Item.{Item}
 use Rattle.expr_meaning.specs.Questions.{Question}

@@ -1,4 +1,5 @@
 -- Numbers of packets that are compared.
+-- No public clause cites these.
 use Rattle.std.specs.Prelude.{◌≡◌, ℕ, true, Option, Some, None, option_map, bit_and}
 use Rattle.bpf_insn.specs.Machine.{Packet}
 use Rattle.bpf_insn.specs.declared.form.Test.TheVariants as test

@@ -1,4 +1,5 @@
 -- Expressions along their first operands.
+-- No public clause cites these.
 use Rattle.std.specs.Prelude.{ℕ, List, [], ◌∷◌, take, Option, Some, None, slice_get}
 use Rattle.expr_tree.specs.declared.test.Test.{Test}
 use Rattle.expr_tree.specs.declared.tree.Kind.{Kind}

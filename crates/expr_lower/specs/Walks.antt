@@ -1,4 +1,5 @@
 -- What is written for an expression.
+-- No public clause cites these.
 use Rattle.std.specs.Prelude.{◌≡◌, ℕ, ◌≤◌, Bool, List, ◌∷◌, length, take, reverse, Option, Some, None}
 use Rattle.bpf_insn.specs.Machine.{Packet}
 use Rattle.filter_cond.specs.declared.cond.Part.{Part}

@@ -1,4 +1,4 @@
-//! Packets, and filter expressions with what each says of each packet: the verdicts of libpcap 1.10.3, unoptimised.
+//! Packets, and filter expressions with what each says of each packet: those are the verdicts of libpcap 1.10.3, too.
 
 /// The captured bytes of each packet in hexadecimal digits, and its original length.
 pub(crate) const PACKETS: [(&str, u32); 60] = [
