@@ -1,7 +1,7 @@
 #!/usr/bin/env python3
 """What stack each call of the C libraries takes, by their code: of each function the bytes that it pushes and subtracts, on the longest
-way of calls through it. The code calls nothing by a pointer, and no function calls itself but those that TIMES names; either would be a
-failure. What malloc, realloc, free, memcpy, memmove, memset and memcmp take comes on top.
+way of calls through it. The code calls nothing by a pointer, and no functions call themselves or each other in a circle but those that
+TIMES names; either would be a failure. What malloc, realloc, free, memcpy, memmove, memset and memcmp take comes on top.
 
     c/stack.py PROCESSOR OBJDUMP FOLDER..      x86_64 or aarch64; a GNU objdump for it; folders that have archives
 
@@ -18,11 +18,22 @@ MOST = {
     "mkdemux_boot_limits_cores": 3520,
     "mkdemux_turn": 3456,
     "mkdemux_settle": 3392,
+    "mkdemux_predecode": 3648,
+    "mkdemux_compile": 720_000,
+    "mkdemux_explain": 720_000,
 }
 OTHERS = 2048
-# Functions that call themselves, and how many of their calls are open at a time at most. A list that is sorted here has at most 65,536
-# items. A machine has at most 64 cores.
+# Functions that call themselves, or each other in a circle, by one of them, and how many of the calls of each are open at a time at
+# most. A list that is sorted here has at most 65,536 items. A machine has at most 64 cores. An expression has at most 200 levels of
+# what is nested, and at most 8,192 words: each operator of a calculation is one. A map has at least six entries in each of its nodes
+# but one, and fewer than 2^32 in all.
 TIMES = {
+    "std_collections::btree::node::Node::destroy": 13,
+    "expr_parse::parser::Parser::term": 201,
+    "expr_parse::parser::Parser::calc": 201,
+    "expr_parse::parser::Parser::item": 201,
+    "expr_lower::constant::constant": 4396,
+    "expr_lower::walk::lower_at": 201,
     "core::slice::sort::unstable::quicksort": 32,
     "core::slice::sort::pivot::median_of_medians": 4,
     "mkdemux_cores::settling::fault_of": 65,
@@ -79,12 +90,13 @@ def functions_of(archive, processor, objdump):
 
 def aim(function, name, rest, is_call):
     """Takes in where a call or a jump leads. The set that it adds to, if it leads to another place than within the function, and what it
-    added."""
+    added, which a relocation on the next line takes the place of."""
     target = re.search(r"<(.+?)(?:\+0x[0-9a-f]+)?>$", rest)
     aims = function.calls if is_call else function.jumps
-    if target and (target[1] != name or is_call):
-        aims.add(target[1])
-    return aims, target and target[1]
+    added = target[1] if target and (target[1] != name or is_call) and target[1] not in aims else None
+    if added:
+        aims.add(added)
+    return aims, added
 
 
 def step_of_aarch64(function, name, word, rest):
@@ -127,9 +139,45 @@ def step_of_x86_64(function, name, word, rest):
     return None, None
 
 
+def circles(functions, in_section):
+    """Of each function those that it calls and that call it, directly or by others (R. Tarjan, 1972)."""
+    order, low, stack, circle_of = {}, {}, [], {}
+
+    def visit(name):
+        order[name] = low[name] = len(order)
+        stack.append(name)
+        for called in functions[name].calls | functions[name].jumps:
+            called = in_section.get(called, called)
+            if called in functions and called not in order:
+                visit(called)
+                low[name] = min(low[name], low[called])
+            elif called in functions and called not in circle_of:
+                low[name] = min(low[name], order[called])
+        if low[name] == order[name]:
+            at = stack.index(name)
+            circle = frozenset(stack[at:])
+            del stack[at:]
+            circle_of.update((one, circle) for one in circle)
+
+    for name in list(functions):
+        if name not in order:
+            visit(name)
+    return circle_of
+
+
 def depths(functions, in_section, address):
     """The bytes below the return address that a function takes at most, by its name; a return address takes some itself."""
-    known, open_now = {}, []
+    known, circle_of = {}, circles(functions, in_section)
+
+    def times(circle):
+        """How many calls of each function of a circle are open at a time."""
+        (name, *others) = circle
+        if not others and not any(in_section.get(called, called) == name for called in functions[name].calls):
+            return 1
+        found = [TIMES[one.split("::<")[0]] for one in circle if one.split("::<")[0] in TIMES]
+        if not found:
+            raise Unclear(f"{' -> '.join(sorted(circle))} is a circle")
+        return max(found)
 
     def depth(name):
         name = in_section.get(name, name)
@@ -137,16 +185,14 @@ def depths(functions, in_section, address):
             if name not in OUTSIDE and not ATOMIC.match(name):
                 raise Unclear(f"{name} isn't in the archive")
             return 0
-        if name in open_now:
-            raise Unclear(f"{' -> '.join(open_now)} -> {name} is a cycle")
-        if name not in known:
-            open_now.append(name)
-            own = functions[name]
-            times = TIMES.get(name.split("::<")[0], 1) if name in own.calls else 1
-            inner = max((address + depth(called) for called in own.calls if times == 1 or called != name), default=0)
-            known[name] = max([times * (own.frame + address) - address + inner, *(depth(next_one) for next_one in own.jumps if next_one != name)])
-            open_now.pop()
-        return known[name]
+        circle = circle_of[name]
+        if circle not in known:
+            open_now = times(circle)
+            inner = max((address + depth(called) for one in circle for called in functions[one].calls if in_section.get(called, called) not in circle), default=0)
+            after = max((depth(next_one) for one in circle for next_one in functions[one].jumps if in_section.get(next_one, next_one) not in circle), default=0)
+            own = open_now * sum(functions[one].frame + address for one in circle) - address
+            known[circle] = own + inner if open_now > 1 else max(own + inner, after)
+        return known[circle]
 
     return depth
 

@@ -289,7 +289,8 @@ struct mkdemux_assembly mkdemux_assemble(const char *text, size_t length, struct
  * Proved: for DONE the first `count` instructions are a program that mkdemux_verify accepts; on every packet its verdict
  * is `snaplen` where the expression is true of the packet, and 0 where it is false or asks for a byte that isn't there;
  * for NO_ROOM `count` says how many instructions are needed (4,096 at most); a text with a fault from CHARACTER to
- * TOO_DEEP is no expression. For all answers but DONE the room stays as it was. Takes memory. */
+ * TOO_DEEP is no expression. For all answers but DONE the room stays as it was. Takes memory, and for a text of many
+ * levels or operators up to 720 KB of stack. */
 struct mkdemux_compiled mkdemux_compile(const char *text, size_t length, uint32_t link, uint32_t snaplen,
     struct mkdemux_insn *insns, size_t room);
 
