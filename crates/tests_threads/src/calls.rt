@@ -237,7 +237,7 @@ fn turn(core: u16) -> CoreStep
     }
 }
 
-/// Core 1 asks. Core 0 prepares, takes the vote of core 1, and commits.
+/// Core 1 asks, and both cores take turns until core 0 has the vote of core 1 and commits.
 fn half_of_a_change(rt: &impl Abort, alloc: Global) -> Vec<CoreStep>
     ensures inside { All (λ step. step.core < 2) result.items }
     ensures short { All (λ step. (op : GhostOp) → step.task ≡ Ask op → 0 < step.core → HasShortProgram op) result.items }
@@ -246,7 +246,22 @@ fn half_of_a_change(rt: &impl Abort, alloc: Global) -> Vec<CoreStep>
         core: 1,
         task: Task::Ask { op: create() },
     };
-    vec![in alloc; ask, turn(1), turn(0), turn(1), turn(0)].expect(rt, "there is memory")
+    vec![in alloc;
+        ask,
+        turn(1),
+        turn(0),
+        turn(1),
+        turn(0),
+        turn(1),
+        turn(0),
+        turn(1),
+        turn(0),
+        turn(1),
+        turn(0),
+        turn(1),
+        turn(0),
+    ]
+    .expect(rt, "there is memory")
 }
 
 /// After the steps alone core 0 has committed, and core 1 has not.
@@ -257,7 +272,7 @@ fn cores_are_seen_in_the_middle_of_a_change(rt: HostRuntime) {
         &rt,
         "there is memory",
     );
-    equal(&rt, stepped.outcomes.len(), 5);
+    equal(&rt, stepped.outcomes.len(), 13);
     equal(&rt, last_version(&stepped.replicas, 0), Some(1));
     equal(&rt, last_version(&stepped.replicas, 1), Some(0));
     drop(stepped);
