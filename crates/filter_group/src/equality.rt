@@ -1,9 +1,13 @@
 //! The tests for equality of programs of one shape.
 
-ghost use Rattle.std.specs.Prelude.{◌≡◌, ◌+◌, ◌<◌, ◌≤◌, IfOk, IsTrue, Some, length, slice_get};
+ghost use Rattle.std.specs.Prelude.{◌≡◌, ◌+◌, ◌<◌, ◌≤◌, ℕ, List, IfOk, IsTrue, Some, length, slice_get};
 ghost use Rattle.bpf_insn.specs.Program.{FormAt};
-ghost use Rattle.filter_group.specs.Equalities.{AreEqualitiesOf, AreMarked, AreWider, IsBetween, IsEqualityOf, IsMarked, IsWider};
+ghost use Rattle.filter_group.specs.declared.answers.Slot.{Slot as AnySlot};
+ghost use Rattle.filter_group.specs.Answers.{IsRising};
+ghost use Rattle.filter_group.specs.Changes.{AllRise};
+ghost use Rattle.filter_group.specs.Equalities.{AreEqualitiesOf, AreMarked, AreNarrower, AreWider, IsBetween, IsEqualityOf, IsMarked, IsNarrower, IsWider};
 
+use crate::answers::Slot;
 use bpf_insn::{Form, Insn, Test};
 use std::alloc::{AllocError, Global};
 
@@ -16,7 +20,7 @@ pub(crate) struct Equality {
     pub(crate) jf: u8,
     /// Whether a run in which it fails surely ends with verdict 0 by the next instruction.
     pub(crate) is_silent: bool,
-    /// No program's constant is less. That of one that is gone may be meant still.
+    /// No program's constant is less. That of one that is gone may be meant still, where constants don't all rise.
     pub(crate) least: u32,
     /// No program's constant is greater, in the same way.
     pub(crate) most: u32,
@@ -38,6 +42,22 @@ impl Equality {
         Equality {
             least: self.least.min(k),
             most: self.most.max(k),
+            ..self
+        }
+    }
+
+    /// The same where constants that all rise are all that may be.
+    fn within(self, slot: &Slot) -> Equality
+        requires { IsRising slot.now }
+        ensures { (marks : List ℕ) (slots : List AnySlot) (pc n : ℕ) → slice_get marks pc ≡ Some (n + 1) → slice_get slots n ≡ Some slot.now → IsNarrower marks slots pc self result }
+    {
+        let count = slot.constants.len();
+        if count == 0 || !slot.all_rise() {
+            return self;
+        }
+        Equality {
+            least: *slot.constants.at(0),
+            most: *slot.constants.at(count - 1),
             ..self
         }
     }
@@ -143,5 +163,27 @@ pub(crate) fn widen(equalities: &mut [Equality], code: &[Insn])
         if equalities[pc].is_there {
             equalities[pc] = equalities[pc].with(code[pc].k);
         }
+    }
+}
+
+/// What is known of a test for equality at a place once members may be gone.
+fn narrowed(equality: Equality, marks: &[usize], slots: &[Slot], pc: usize) -> Equality
+    requires { AllRise slots.now }
+    ensures { IsNarrower marks.now slots.now pc equality result }
+{
+    if !equality.is_there || pc >= marks.len() || marks[pc] == 0 || marks[pc] > slots.len() {
+        return equality;
+    }
+    equality.within(&slots[marks[pc] - 1])
+}
+
+/// The same tests once members are gone, of whose slots these are: where constants all rise, the test is known to have just these. Takes
+/// no memory.
+pub(crate) fn narrow(equalities: &mut [Equality], marks: &[usize], slots: &[Slot])
+    requires { AllRise slots.now }
+    ensures { AreNarrower marks.now slots.now equalities.old equalities.new }
+{
+    for pc in 0..equalities.len() {
+        equalities[pc] = narrowed(equalities[pc], marks, slots, pc);
     }
 }

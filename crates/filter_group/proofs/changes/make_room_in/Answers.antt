@@ -1,12 +1,22 @@
-use Rattle.std.proofs.Common.{◌≡◌, ◌∙◌, get_or, slice_get, ap, sym, subst, arith}
+use Rattle.std.proofs.Common.{◌≡◌, ◌∙◌, get_or, refl, slice_get, ap, sym, subst, arith}
 use Rattle.std.proofs.lemmas.Option.{get_or_from_slice_get, slice_get-get_or, slice_get_within}
 use Rattle.bpf_insn.specs.declared.insn.Insn.{Insn}
 use Rattle.filter_group.specs.declared.answers.Slot.{Slot}
-use Rattle.filter_group.specs.Changes.{HasRoom}
+use Rattle.filter_group.specs.Changes.{HasRoom, IsSame}
 use Rattle.filter_group.proofs.InTurn.{can_same, room_more, same_more}
 use Rattle.filter_group.proofs.MoreOrLess.{no_insn}
 use Rattle.filter_group.proofs.Sides.{one_thing}
 use Rattle.filter_group.proofs.changes.make_room_in.Goals as goal
+
+pub loop-n-init : goal.loop-n-init
+loop-n-init c = record {
+  same = record {
+    count = refl;
+    each = λ n old slot at_old at.
+        subst (IsSame old) (one_thing c.args.slots.now n old slot at_old at) (record { place = refl; constants = refl; rising = (c.requires n old at_old).2 });
+  };
+  room = λ i slot insn low at at_insn. absurd (omega arith);
+}
 
 pub bounds-code-slots : goal.bounds-code-slots
 bounds-code-slots c =

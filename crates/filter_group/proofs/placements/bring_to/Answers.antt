@@ -96,6 +96,6 @@ returns c =
     let part = c.index_mut-part.result.now in
     let runs = runs_at programs groups parts c.args.place program c.requires.indexed c.requires.within c.index-programs-number.is in
     let put = put_in c.insert.result c.is_err.result c.insert.new.self part c.args.home.member c.args.place program c.insert.ensures.done c.is_err.ensures.value c.if-is_err.false in
-    c.close.ensures programs
+    c.close.ensures.kept programs
     (brought programs groups parts c.args.place c.index-old.result.now c.args.home program part c.insert.new.self c.requires.indexed runs (c.requires.home program runs)
     c.index_mut-part.ensures.value put c.requires.within c.index-old.ensures c.requires.apart c.leave.new.parts.items c.leave.ensures)

@@ -1,9 +1,10 @@
-use Rattle.std.proofs.Common.{◌≡◌, ◌∙◌, ◌<◌, ◌++◌, ◌∷◌, [], ap, arith, ℕ, List, Some, length, map, slice_get, subst, sym}
+use Rattle.std.proofs.Common.{◌≡◌, ◌∙◌, ◌<◌, ◌++◌, ◌∷◌, [], ap, arith, inl, inr, ℕ, List, Some, length, map, slice_get, subst, sym}
 use Rattle.std.proofs.lemmas.Option.{slice_get-get_or, slice_get_within}
 use Rattle.bpf_insn.specs.Machine.{Packet}
 use Rattle.filter_group.specs.Planning.{GoOn, HasField, IsCase, StillFits}
 use Rattle.filter_group.proofs.Indexed.{is_mapped, map_at, mapped}
 use Rattle.filter_group.proofs.KeptPlan.{goes_next, still_fits, up_to}
+use Rattle.filter_group.proofs.Planning.{goes_on_beside}
 use Rattle.filter_group.proofs.plan.Second.holds_with.Goals as goal
 
 pub loop-case-preserved : goal.loop-case-preserved
@@ -21,17 +22,20 @@ loop-case-preserved c =
     up_to (map (λ one. one.items) lists) case list at
     (λ k l. (packet : Packet) (values : List ℕ) (value : ℕ) → length values ≡ 2 → GoOn part packet values start → HasField packet self.field value → IsCase self.constants.items k value → StillFits part group packet (values ++ value ∷ []) l)
     c.loop-case.invariant
-    (λ packet values value count goes has is.
-    still_fits part group packet (values ++ value ∷ []) list c.advanced-next.result (c.has_start.ensures c.if-not-has_start.false)
-    (goes_next part c.deref.result.now self.field case 2 start c.advanced-next.result c.advanced-next.ensures.goes c.advanced-next.ensures.ends packet values value goes count has
-    (subst (λ (xs : List ℕ). IsCase xs case value) (sym c.deref.ensures.value) is)))
+    (λ packet values value count goes has is. elim (c.has_either.ensures c.if-not-has_either.false) [
+      | inl further ↦
+          still_fits part group packet (values ++ value ∷ []) list c.advanced-next.result further
+          (goes_next part c.deref.result.now self.field case 2 start c.advanced-next.result c.advanced-next.ensures.goes c.advanced-next.ensures.ends packet values value goes count has
+          (subst (λ (xs : List ℕ). IsCase xs case value) (sym c.deref.ensures.value) is))
+      | inr same ↦ still_fits part group packet (values ++ value ∷ []) list (Some start) same (goes_on_beside part packet values value start goes)
+    ])
 
 pub returns : goal.returns
-returns c = λ done packet values count goes before parts other serves value case starts has is at.
+returns c = λ done packet values count goes many before parts other serves value case starts has is at.
     let lists = c.args.self.now.lists.items in
     let low : case < c.loop-case.case = elim (is_mapped (λ one. one.items) lists case starts at) [
       | mapped v v_at same ↦
           let within = slice_get_within lists case v v_at in
           let n = c.len-case-end.ensures in let ok = c.args.self.now.lists.ok.0 in let last = c.loop-case-test.false in omega (arith, n)
     ] in
-    c.loop-case.invariant case starts low at packet values value count goes has is before parts other (serves value case starts has is at)
+    c.loop-case.invariant case starts low at packet values value count goes has is many before parts other (serves value case starts has is at)

@@ -15,11 +15,11 @@ loop-case-preserved c =
     up_to (map (λ one. one.items) lists) case c.deref.result.now at (λ k list. HasStart list c.args.group None) c.loop-case.invariant (c.has_start.ensures c.if-not-has_start.false)
 
 pub returns : goal.returns
-returns c = λ done part packet values ends before parts other serves value case starts has is at.
+returns c = λ done part packet values ends many before parts other serves value case starts has is at.
     let lists = c.args.self.now.lists.items in
     let low : case < c.loop-case.case = elim (is_mapped (λ one. one.items) lists case starts at) [
       | mapped v v_at same ↦
           let within = slice_get_within lists case v v_at in
           let n = c.len-case-end.ensures in let ok = c.args.self.now.lists.ok.0 in let last = c.loop-case-test.false in omega (arith, n)
     ] in
-    still_fits part c.args.group packet (values ++ value ∷ []) starts None (c.loop-case.invariant case starts low at) ends before parts other (serves value case starts has is at)
+    still_fits part c.args.group packet (values ++ value ∷ []) starts None (c.loop-case.invariant case starts low at) ends many before parts other (serves value case starts has is at)
