@@ -1,6 +1,6 @@
 -- Comparisons of numbers of packets.
-use Rattle.std.proofs.Common.{◌≡◌, ℕ, ◌+◌, ◌-◌, ◌*◌, ◌<◌, ◌≤◌, ◌%◌, ◌^◌, Bool, true, false, not, List, ◌∷◌, ◌++◌, length, take, drop, Option, Some, None, refl, sym, ap, ◌∙◌, subst, arith}
-use Rattle.std.specs.Prelude.{option_map, option_and_then, bit_and, nat_lt, nat_le, ◌==◌, IfSome, slice_get}
+use Rattle.std.proofs.Common.{◌≡◌, ℕ, ◌+◌, ◌-◌, ◌*◌, ◌<◌, ◌≤◌, ◌%◌, ◌^◌, Bool, true, false, not, List, ◌∷◌, ◌++◌, Option, Some, None, Result, Ok, Err, refl, sym, ap, ◌∙◌, arith}
+use Rattle.std.specs.Prelude.{option_map, option_and_then, nat_lt, nat_le, ◌==◌, IfOk, IfSome}
 use Rattle.std.proofs.lemmas.Bool.Decides.{nat_tests}
 use Rattle.std.proofs.lemmas.Nat.{and_comm}
 use Rattle.bpf_insn.specs.declared.form.Size.{Size}
@@ -8,9 +8,9 @@ use Rattle.bpf_insn.specs.declared.form.Size.TheVariants.{Byte}
 use Rattle.bpf_insn.specs.Machine.{Packet}
 use Rattle.filter_cond.specs.declared.cond.Part.{Part}
 use Rattle.filter_cond.specs.declared.number.Load.{Load}
-use Rattle.filter_cond.specs.declared.number.Load.TheVariants.{At, Past, Length}
+use Rattle.filter_cond.specs.declared.number.Load.TheVariants.{Past, Length}
 use Rattle.filter_cond.specs.Means.{masked, truths_of}
-use Rattle.filter_cond.specs.Numbers.{number_at, header_length, loaded, applied}
+use Rattle.filter_cond.specs.Numbers.{number_at, loaded, applied}
 use Rattle.expr_words.specs.declared.protocol.Protocol.{Protocol}
 use Rattle.expr_tree.specs.declared.calc.Operator.{Operator}
 use Rattle.expr_tree.specs.declared.calc.Operator.TheVariants as op
@@ -20,38 +20,42 @@ use Rattle.expr_tree.specs.declared.calc.Size as calc
 use Rattle.expr_tree.specs.Expr.{Value, Number, Len, Bytes, Operation, Negate, Compare}
 use Rattle.expr_meaning.specs.declared.place.Place.{Place}
 use Rattle.expr_meaning.specs.Carriages.{carriage_of}
-use Rattle.expr_meaning.specs.Questions.{Question, answer, and_then}
+use Rattle.expr_meaning.specs.Questions.{answer, and_then}
 use Rattle.expr_meaning.specs.Layers.{known}
 use Rattle.expr_meaning.specs.Headers.{there}
 use Rattle.expr_meaning.specs.Values.{operation_of, size_of, relates, bytes_of, behind4, value, compares}
+use Rattle.expr_meaning.specs.Asked.{can_load}
 use Rattle.expr_meaning.specs.Holds.{headers}
+use Rattle.expr_meaning.specs.Refused.{can_value}
 use Rattle.expr_fields.specs.Parts.{parts_of}
-use Rattle.expr_lower.specs.declared.operand.HeaderAt.{HeaderAt}
 use Rattle.expr_lower.specs.declared.operand.Loading.{Loading}
-use Rattle.expr_lower.specs.Walks.{Fits, Fronts}
+use Rattle.expr_lower.specs.Walks.{Fronts, still}
 use Rattle.expr_lower.specs.Operands.{IsConstant, header_of, Loads, LoadsAll, IsMasked, related, relate, turned}
-use Rattle.expr_lower.proofs.Walking.{adds_parts}
+use Rattle.expr_lower.proofs.Walking.{both, adds_parts}
 
 -- numbers alone
 pub number_constant : (number : ℕ) → IsConstant (Number number) number
-number_constant number packet place = (refl, refl)
+number_constant number = (λ packet place. (refl, refl), λ place. refl)
 
 pub operation_constant : (operator : Operator) (v w : Value) (a b r : Option ℕ) → IfSome a (IsConstant v) → IfSome b (IsConstant w) → r ≡ option_and_then (λ x. option_and_then (λ y. applied (operation_of operator) x y) b) a → IfSome r (IsConstant (Operation operator v w))
 operation_constant operator v w a b None ca cb e = tt
 operation_constant operator v w None b (Some r) ca cb e = absurd (cc)
 operation_constant operator v w (Some x) None (Some r) ca cb e = absurd (cc)
-operation_constant operator v w (Some x) (Some y) (Some r) ca cb e =
-    λ packet place.
-    let p = ca packet place in
-    let q = cb packet place in (
-      ap (option_and_then (λ a. option_and_then (applied (operation_of operator) a) (value packet place w))) p.0
-          ∙ ap (option_and_then (applied (operation_of operator) x)) q.0
-          ∙ sym e,
-      ap (λ t. and_then t (answer (headers place w) packet)) p.1 ∙ q.1,
-    )
+operation_constant operator v w (Some x) (Some y) (Some r) ca cb e = (
+  λ packet place.
+      let p = ca.0 packet place in
+      let q = cb.0 packet place in (
+        ap (option_and_then (λ a. option_and_then (applied (operation_of operator) a) (value packet place w))) p.0
+            ∙ ap (option_and_then (applied (operation_of operator) x)) q.0
+            ∙ sym e,
+        ap (λ t. and_then t (answer (headers place w) packet)) p.1 ∙ q.1,
+      ),
+  λ place. both (can_value v place) (can_value w place) (ca.1 place) (cb.1 place),
+)
 
 pub negate_constant : (v : Value) (a : ℕ) (r : ℕ) → IsConstant v a → r ≡ (2 ^ 32 - a) % 2 ^ 32 → IsConstant (Negate v) r
-negate_constant v a r c e packet place = let p = c packet place in (ap (option_map (λ a. (2 ^ 32 - a) % 2 ^ 32)) p.0 ∙ ap Some (sym e), p.1)
+negate_constant v a r c e =
+    (λ packet place. let p = c.0 packet place in (ap (option_map (λ a. (2 ^ 32 - a) % 2 ^ 32)) p.0 ∙ ap Some (sym e), p.1), c.1)
 
 -- what IPv4 carries, by the length of its header
 short : (first : ℕ) → 4 * (first % 16) ≤ 60
@@ -73,19 +77,22 @@ twice None = refl
 twice (Some x) = refl
 
 pub len_loads : (before : Option Place) → LoadsAll Len before (record { load = Length; mask = None; header = None })
-len_loads before = (refl, λ packet place fits. (refl, refl))
+len_loads before = (refl, (λ packet place fits. (refl, refl), refl))
 
-pub bytes_load : (known : Place) (protocol : Protocol) (size : calc.Size) (index : ℕ) (load : Load) (v : Value) → ((packet : Packet) → bytes_of packet known.payload (carriage_of protocol) (size_of size) index ≡ loaded load packet) → IsConstant v index → LoadsAll (Bytes protocol v size) (Some known) (record { load = load; mask = None; header = Some (record { place = known; protocol = protocol }) })
-bytes_load known protocol size index load v is c = (
+pub bytes_load : (known : Place) (protocol : Protocol) (size : calc.Size) (index : ℕ) (load : Load) (v : Value) → ((packet : Packet) → bytes_of packet known.payload (carriage_of protocol) (size_of size) index ≡ loaded load packet) → can_load known.layer protocol ≡ true → IsConstant v index → LoadsAll (Bytes protocol v size) (Some known) (record { load = load; mask = None; header = Some (record { place = known; protocol = protocol }) })
+bytes_load known protocol size index load v is can c = (
   refl,
-  λ packet place fits.
-      let p = c packet place in (
-        ap (option_and_then (bytes_of packet place.payload (carriage_of protocol) (size_of size))) p.0
-            ∙ ap (λ (q : Place). bytes_of packet q.payload (carriage_of protocol) (size_of size) index) fits
-            ∙ is packet
-            ∙ twice (loaded load packet),
-        ap (λ t. and_then t (answer (there place protocol) packet)) p.1 ∙ ap (λ q. answer (there q protocol) packet) fits,
-      ),
+  (
+    λ packet place fits.
+        let p = c.0 packet place in (
+          ap (option_and_then (bytes_of packet place.payload (carriage_of protocol) (size_of size))) p.0
+              ∙ ap (λ (q : Place). bytes_of packet q.payload (carriage_of protocol) (size_of size) index) fits
+              ∙ is packet
+              ∙ twice (loaded load packet),
+          ap (λ t. and_then t (answer (there place protocol) packet)) p.1 ∙ ap (λ q. answer (there q protocol) packet) fits,
+        ),
+    both (can_value v (Some known)) (can_load known.layer protocol) (c.1 (Some known)) can,
+  ),
 )
 
 -- a number and its mask
@@ -107,23 +114,35 @@ and_true (Some false) = refl
 
 pub masked_loads : (v w : Value) (before : Option Place) (loading : Loading) (mask : ℕ) → LoadsAll v before loading → IsConstant w mask → IsMasked v w before (record loading { mask = Some mask })
 masked_loads v w before loading mask l c = (
-  λ packet place fits.
-      let p = l.1 packet place fits in
-      let q = c packet place in (
-        ap (option_and_then (λ a. option_and_then (applied (operation_of op.And) a) (value packet place w))) (p.0 ∙ none_is_all loading packet l.0)
-            ∙ ap (λ x. option_and_then (λ a. option_and_then (applied (operation_of op.And) a) x) (loaded loading.load packet)) q.0
-            ∙ and_applied (loaded loading.load packet) mask,
-        ap (λ t. and_then t (answer (headers place w) packet)) p.1 ∙ ap (and_then (answer (header_of loading.header) packet)) q.1 ∙ and_true (answer (header_of loading.header) packet),
-      ),
-  λ packet place fits.
-      let p = l.1 packet place fits in
-      let q = c packet place in (
-        ap (option_and_then (λ a. option_and_then (applied (operation_of op.And) a) (value packet place v))) q.0
-            ∙ ap (option_and_then (applied (operation_of op.And) mask)) (p.0 ∙ none_is_all loading packet l.0)
-            ∙ applied_and (loaded loading.load packet) mask,
-        ap (λ t. and_then t (answer (headers place v) packet)) q.1 ∙ p.1,
-      ),
+  (
+    λ packet place fits.
+        let p = l.1.0 packet place fits in
+        let q = c.0 packet place in (
+          ap (option_and_then (λ a. option_and_then (applied (operation_of op.And) a) (value packet place w))) (p.0 ∙ none_is_all loading packet l.0)
+              ∙ ap (λ x. option_and_then (λ a. option_and_then (applied (operation_of op.And) a) x) (loaded loading.load packet)) q.0
+              ∙ and_applied (loaded loading.load packet) mask,
+          ap (λ t. and_then t (answer (headers place w) packet)) p.1 ∙ ap (and_then (answer (header_of loading.header) packet)) q.1 ∙ and_true (answer (header_of loading.header) packet),
+        ),
+    both (can_value v before) (can_value w before) l.1.1 (c.1 before),
+  ),
+  (
+    λ packet place fits.
+        let p = l.1.0 packet place fits in
+        let q = c.0 packet place in (
+          ap (option_and_then (λ a. option_and_then (applied (operation_of op.And) a) (value packet place v))) q.0
+              ∙ ap (option_and_then (applied (operation_of op.And) mask)) (p.0 ∙ none_is_all loading packet l.0)
+              ∙ applied_and (loaded loading.load packet) mask,
+          ap (λ t. and_then t (answer (headers place v) packet)) q.1 ∙ p.1,
+        ),
+    both (can_value w before) (can_value v before) (c.1 before) l.1.1,
+  ),
 )
+
+-- a load that was found
+pub found : {E : Type 0} (result : Result (Option Loading) E) (P Q : Loading → Type 0) → ((loading : Loading) → P loading → Q loading) → IfOk result (λ f. IfSome f P) → IfOk result (λ f. IfSome f Q)
+found (Ok (Some loading)) P Q f h = f loading h
+found (Ok None) P Q f h = tt
+found (Err e) P Q f h = tt
 
 -- how two numbers are related
 map_not : (f : ℕ → Bool) (x : Option ℕ) → option_map not (option_map f x) ≡ option_map (λ v. not (f v)) x
@@ -168,11 +187,11 @@ from_the_right relation mask k None = refl
 from_the_right relation mask k (Some x) = ap Some (back relation k (masked mask x))
 
 -- comparisons
-pub loads_lower : (relation : Relation) (v w : Value) (before : Option Place) (loading : Loading) (k : ℕ) (old new : List Part) → Loads v before loading → IsConstant w k → new ≡ old ++ parts_of (relate relation loading k) → Fronts (Compare relation v w) before before old new
+pub loads_lower : (relation : Relation) (v w : Value) (before : Option Place) (loading : Loading) (k : ℕ) (old new : List Part) → Loads v before loading → IsConstant w k → new ≡ old ++ parts_of (relate relation loading k) → Fronts (Compare relation v w) before (still before) old new
 loads_lower relation v w before loading k old new l c e = record {
   says = λ place fits results packet.
-      let p = l packet place fits in
-      let q = c packet place in
+      let p = l.0 packet place fits in
+      let q = c.0 packet place in
       let header = answer (header_of loading.header) packet in
       adds_parts (relate relation loading k) old new e results packet
       ∙ ap (λ t. t ∷ truths_of results packet old)
@@ -183,14 +202,16 @@ loads_lower relation v w before loading k old new l c e = record {
       ∙ ap (λ x. and_then header (option_and_then (λ a. option_map (relates relation a) (value packet place w)) x)) p.0
       ∙ ap (λ x. and_then header (option_and_then (λ a. option_map (relates relation a) x) (option_map (masked loading.mask) (loaded loading.load packet)))) q.0
       ∙ ap (and_then header) (from_the_left relation loading.mask k (loaded loading.load packet) ∙ sym (related_is relation loading.load loading.mask k packet))));
-  moves = λ place fits. fits;
+  place = refl;
+  tag = refl;
+  can_be = both (can_value v before) (can_value w before) l.1 (c.1 before);
 }
 
-pub turned_lower : (relation : Relation) (v w : Value) (before : Option Place) (loading : Loading) (k : ℕ) (old new : List Part) → IsConstant v k → Loads w before loading → new ≡ old ++ parts_of (relate (turned relation) loading k) → Fronts (Compare relation v w) before before old new
+pub turned_lower : (relation : Relation) (v w : Value) (before : Option Place) (loading : Loading) (k : ℕ) (old new : List Part) → IsConstant v k → Loads w before loading → new ≡ old ++ parts_of (relate (turned relation) loading k) → Fronts (Compare relation v w) before (still before) old new
 turned_lower relation v w before loading k old new c l e = record {
   says = λ place fits results packet.
-      let p = c packet place in
-      let q = l packet place fits in
+      let p = c.0 packet place in
+      let q = l.0 packet place fits in
       let header = answer (header_of loading.header) packet in
       adds_parts (relate (turned relation) loading k) old new e results packet
       ∙ ap (λ t. t ∷ truths_of results packet old)
@@ -200,18 +221,20 @@ turned_lower relation v w before loading k old new c l e = record {
       ∙ ap (λ x. and_then header (option_and_then (λ a. option_map (relates relation a) (value packet place w)) x)) p.0
       ∙ ap (λ x. and_then header (option_map (relates relation k) x)) q.0
       ∙ ap (and_then header) (from_the_right relation loading.mask k (loaded loading.load packet) ∙ sym (related_is (turned relation) loading.load loading.mask k packet))));
-  moves = λ place fits. fits;
+  place = refl;
+  tag = refl;
+  can_be = both (can_value v before) (can_value w before) (c.1 before) l.1;
 }
 
 known_is : (b : Bool) (packet : Packet) → answer (known b) packet ≡ Some b
 known_is true packet = refl
 known_is false packet = refl
 
-pub known_lower : (relation : Relation) (v w : Value) (before : Option Place) (a b : ℕ) (old new : List Part) → IsConstant v a → IsConstant w b → new ≡ old ++ parts_of (known (relates relation a b)) → Fronts (Compare relation v w) before before old new
+pub known_lower : (relation : Relation) (v w : Value) (before : Option Place) (a b : ℕ) (old new : List Part) → IsConstant v a → IsConstant w b → new ≡ old ++ parts_of (known (relates relation a b)) → Fronts (Compare relation v w) before (still before) old new
 known_lower relation v w before a b old new c d e = record {
   says = λ place fits results packet.
-      let p = c packet place in
-      let q = d packet place in
+      let p = c.0 packet place in
+      let q = d.0 packet place in
       adds_parts (known (relates relation a b)) old new e results packet
       ∙ ap (λ t. t ∷ truths_of results packet old)
       (known_is (relates relation a b) packet
@@ -220,5 +243,7 @@ known_lower relation v w before a b old new c d e = record {
       ∙ ap (λ t. and_then t (compares packet place relation v w)) q.1
       ∙ ap (option_and_then (λ x. option_map (relates relation x) (value packet place w))) p.0
       ∙ ap (option_map (relates relation a)) q.0));
-  moves = λ place fits. fits;
+  place = refl;
+  tag = refl;
+  can_be = both (can_value v before) (can_value w before) (c.1 before) (d.1 before);
 }

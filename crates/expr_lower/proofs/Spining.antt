@@ -12,7 +12,7 @@ use Rattle.expr_tree.specs.declared.tree.Node.{Node}
 use Rattle.expr_lower.specs.Spines.{leaf_expr, leaf_by, leaf_of, first_of, test_of, joined_by, joined_at, joined}
 use Rattle.expr_tree.specs.declared.test.Test.{Test}
 use Rattle.expr_lower.specs.Walks.{IsTest}
-use Rattle.expr_tree.specs.Expr.{Expr, Value, Number, Every, Is, Compare, Not, And, Or, calc_by, value_by, expr_by, value_in, expr_in, value_at, expr_at}
+use Rattle.expr_tree.specs.Expr.{Expr, Value, Number, Every, Not, And, Or, calc_by, value_by, expr_by, value_in, expr_in, value_at, expr_at}
 
 same : (n : ℕ) → (n == n) ≡ true
 same n = grind (arith, nat_tests)

@@ -1,6 +1,6 @@
 -- Numbers of packets that are compared.
 -- No public clause cites these.
-use Rattle.std.specs.Prelude.{◌≡◌, ℕ, true, Option, Some, None, option_map, bit_and}
+use Rattle.std.specs.Prelude.{◌≡◌, ℕ, true, Option, Some, None, option_map}
 use Rattle.bpf_insn.specs.Machine.{Packet}
 use Rattle.bpf_insn.specs.declared.form.Test.TheVariants as test
 use Rattle.filter_cond.specs.declared.number.Load.{Load}
@@ -15,6 +15,7 @@ use Rattle.expr_meaning.specs.Questions.{Question, Yes, Ask, Not, And, answer}
 use Rattle.expr_meaning.specs.Values.{value}
 use Rattle.expr_meaning.specs.Headers.{there}
 use Rattle.expr_meaning.specs.Holds.{headers}
+use Rattle.expr_meaning.specs.Refused.{can_value}
 use Rattle.expr_lower.specs.declared.operand.HeaderAt.{HeaderAt}
 use Rattle.expr_lower.specs.declared.operand.Loading.{Loading}
 use Rattle.expr_lower.specs.declared.operand.Operand.{Operand}
@@ -23,7 +24,8 @@ use Rattle.expr_lower.specs.Walks.{Fits}
 
 -- the calculation is this number, and asks for no header
 abbrev pub IsConstant : Value → ℕ → Type 0
-IsConstant v number = (packet : Packet) (place : Place) → (value packet place v ≡ Some number) × (answer (headers place v) packet ≡ Some true)
+IsConstant v number =
+    ((packet : Packet) (place : Place) → (value packet place v ≡ Some number) × (answer (headers place v) packet ≡ Some true)) × ((place : Option Place) → can_value v place ≡ true)
 
 abbrev pub header_of : Option HeaderAt → Question
 header_of None = Yes
@@ -32,7 +34,7 @@ header_of (Some header) = there header.place header.protocol
 -- the calculation is the number that is loaded, and asks for its header
 abbrev pub Loads : Value → Option Place → Loading → Type 0
 Loads v before loading =
-    (packet : Packet) (place : Place) → Fits before place → (value packet place v ≡ option_map (masked loading.mask) (loaded loading.load packet)) × (answer (headers place v) packet ≡ answer (header_of loading.header) packet)
+    ((packet : Packet) (place : Place) → Fits before place → (value packet place v ≡ option_map (masked loading.mask) (loaded loading.load packet)) × (answer (headers place v) packet ≡ answer (header_of loading.header) packet)) × (can_value v before ≡ true)
 
 -- all of its bits
 abbrev pub LoadsAll : Value → Option Place → Loading → Type 0

@@ -5,7 +5,7 @@ use Rattle.expr_tree.specs.declared.test.Test.{Test}
 use Rattle.expr_tree.specs.declared.tree.Kind.{Kind}
 use Rattle.expr_tree.specs.declared.tree.Kind.TheVariants as kind
 use Rattle.expr_tree.specs.declared.tree.Node.{Node}
-use Rattle.expr_tree.specs.Expr.{Expr, Value, Every, Is, Compare, Not, And, Or, expr_at, value_at}
+use Rattle.expr_tree.specs.Expr.{Expr, Value, Every, Is, Compare, Not, And, Or, expr_at}
 use Rattle.expr_lower.specs.declared.spine.Leaf.{Leaf}
 use Rattle.expr_lower.specs.declared.spine.Leaf.TheVariants as leaf
 

@@ -1,12 +1,12 @@
 //! Comparisons of calculations.
 
-ghost use Rattle.std.specs.Prelude.{◌≡◌, ◌++◌, IfOk, OnOk};
+ghost use Rattle.std.specs.Prelude.{◌≡◌, ◌++◌, OnOk};
 ghost use Rattle.expr_meaning.specs.Values.{relates};
 ghost use Rattle.expr_meaning.specs.Layers.{known};
 ghost use Rattle.expr_fields.specs.Parts.{parts_of};
 ghost use Rattle.expr_tree.specs.Expr.{Compare, value_at};
 ghost use Rattle.expr_lower.specs.Operands as spec;
-ghost use Rattle.expr_lower.specs.Walks.{Fronts};
+ghost use Rattle.expr_lower.specs.Walks.{Fronts, still};
 
 use crate::fault::LowerFault;
 use crate::operand::{HeaderAt, Loading, Operand, side_of};
@@ -126,8 +126,8 @@ pub(crate) fn compare(
     nodes: &[Node],
     before: Option<Place>,
     related: Related,
-) -> Result<Option<Place>, LowerFault>
-    ensures { IfOk result (λ behind. Fronts (Compare related.relation (value_at nodes.now related.first) (value_at nodes.now related.second)) before behind draft.old.parts.items draft.new.parts.items) }
+) -> Result<(), LowerFault>
+    ensures { OnOk result (Fronts (Compare related.relation (value_at nodes.now related.first) (value_at nodes.now related.second)) before (still before) draft.old.parts.items draft.new.parts.items) }
 {
     let Related {
         relation,
@@ -151,5 +151,5 @@ pub(crate) fn compare(
             Operand::Loading(_) => return Err(LowerFault::TooHard { column }),
         },
     }
-    Ok(before)
+    Ok(())
 }

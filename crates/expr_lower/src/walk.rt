@@ -1,28 +1,36 @@
 //! Expressions as conditions.
 
-ghost use Rattle.std.specs.Prelude.{◌≡◌, [], Some, option_map, IfOk, IfSome, OnOk};
+ghost use Rattle.std.specs.Prelude.{◌≡◌, ◌||◌, [], true, Some, option_map, IfOk, OnOk};
 ghost use Rattle.bpf_insn.specs.Machine.{Packet};
 ghost use Rattle.filter_cond.specs.Means.{means};
 ghost use Rattle.expr_tree.specs.Expr.{Is, Or, expr_at, expr_of, value_at};
-ghost use Rattle.expr_meaning.specs.declared.place.Place as the_place;
-ghost use Rattle.expr_meaning.specs.Holds.{holds, moved};
+ghost use Rattle.expr_meaning.specs.Holds.{holds};
+ghost use Rattle.expr_meaning.specs.Refused as refused;
 ghost use Rattle.expr_meaning.specs.Layers as layers;
 ghost use Rattle.expr_lower.specs.Spines.{leaf_expr, joined_by};
 ghost use Rattle.expr_lower.specs.Spines as spec;
-ghost use Rattle.expr_lower.specs.Walks.{Fits, Lowers, Runs, Flushes, Joins, IsTest};
+ghost use Rattle.expr_lower.specs.Walks.{Lowers, Runs, Flushes, Joins, IsTest};
 
 use crate::compare::compare;
 use crate::fault::LowerFault;
 use crate::spine::{Leaf, Spine, way_down};
 use expr_fields::{Draft, ask, moved};
-use expr_meaning::{Link, Place, can_ask, is_one_more, start};
+use expr_meaning::{Link, Place, can_ask, is_one_more, is_tag, start};
 use expr_tree::{Kind, Node, Test, Tree};
 use filter_cond::{Cond, Part};
 use std::alloc::Global;
 
-/// The place behind a test, where it can be asked.
+/// What is known of the place behind a part of an expression, and whether a tag stands in it.
+#[derive(Clone, Copy)]
+pub(crate) struct Behind {
+    pub place: Option<Place>,
+    pub tag: bool,
+}
+
+/// What is known of the place behind a test, where it can be asked.
 fn check_test(before: Option<Place>, test: Test, column: usize) -> Result<Option<Place>, LowerFault>
-    ensures { IfOk result (λ behind. (place : the_place.Place) → Fits before place → Fits behind (moved test place)) }
+    ensures behind { IfOk result (λ place. place ≡ refused.behind_test test before) }
+    ensures can { IfOk result (λ _. refused.can_test test before ≡ true) }
 {
     let Some(place) = before else {
         return Err(LowerFault::Moved { column });
@@ -44,22 +52,34 @@ fn lower_leaf(
     nodes: &[Node],
     before: Option<Place>,
     leaf: Leaf,
-) -> Result<Option<Place>, LowerFault>
+) -> Result<Behind, LowerFault>
     requires { tests.old.items ≡ [] }
     ensures { IfOk result (λ behind. Runs (leaf_expr (value_at nodes.now) leaf) before behind tests.new.items draft.old.parts.items draft.new.parts.items) }
 {
     match leaf {
         Leaf::Every => {
             draft.push(Part::Always)?;
-            Ok(before)
+            Ok(Behind {
+                place: before,
+                tag: false,
+            })
         }
         Leaf::Test(test, column) => {
-            let behind = check_test(before, test, column)?;
+            let place = check_test(before, test, column)?;
             draft.push(Part::Never)?;
             tests.push(test)?;
-            Ok(behind)
+            Ok(Behind {
+                place,
+                tag: is_tag(test),
+            })
         }
-        Leaf::Compare(related) => compare(draft, nodes, before, related),
+        Leaf::Compare(related) => {
+            compare(draft, nodes, before, related)?;
+            Ok(Behind {
+                place: before,
+                tag: false,
+            })
+        }
     }
 }
 
@@ -89,11 +109,18 @@ fn flush(
     }
 }
 
-/// What is known of the place after tests that need not be true: nothing where it was moved.
-fn kept(before: Option<Place>, behind: Option<Place>) -> Option<Place>
-    ensures { IfSome result (λ place. before ≡ Some place) }
+/// What is known of a place behind tests that need not be true: nothing where one is a tag.
+fn kept(tag: bool, place: Option<Place>) -> Option<Place>
+    ensures { result ≡ refused.kept tag place }
 {
-    if before == behind { before } else { None }
+    if tag { None } else { place }
+}
+
+/// A tag stands in one part or the other.
+fn either(first: bool, second: bool) -> bool
+    ensures { result ≡ (first || second) }
+{
+    first || second
 }
 
 /// The test that a node is.
@@ -130,22 +157,24 @@ fn lower_or_test(
     draft: &mut Draft,
     tests: &mut Vec<Test>,
     before: Option<Place>,
-    behind: Option<Place>,
+    behind: Behind,
     test: Test,
     column: usize,
-) -> Result<Option<Place>, LowerFault>
+) -> Result<Behind, LowerFault>
     ensures { IfOk result (λ end. Joins (λ first. Or first (Is test)) before behind end tests.old.items tests.new.items draft.old.parts.items draft.new.parts.items) }
 {
-    let middle = kept(before, behind);
-    let end = check_test(middle, test, column)?;
+    let middle = kept(behind.tag, before);
+    check_test(middle, test, column)?;
+    let tag = either(behind.tag, is_tag(test));
+    let place = kept(tag, before);
     if is_one_more(tests, test) {
         tests.push(test)?;
-        return Ok(kept(middle, end));
+        return Ok(Behind { place, tag });
     }
     flush(draft, before, tests, column)?;
     tests.clear();
     tests.push(test)?;
-    Ok(kept(middle, end))
+    Ok(Behind { place, tag })
 }
 
 /// Adds what a node of this kind makes of its first operand, which is written but for the list that it ends in, and which stands
@@ -158,8 +187,8 @@ fn lower_join(
     below: &[Node],
     node: Node,
     before: Option<Place>,
-    behind: Option<Place>,
-) -> Result<Option<Place>, LowerFault>
+    behind: Behind,
+) -> Result<Behind, LowerFault>
     ensures { IfOk result (λ end. Joins (joined_by (expr_at below.now) node.kind) before behind end tests.old.items tests.new.items draft.old.parts.items draft.new.parts.items) }
 {
     let Node { kind, column } = node;
@@ -168,24 +197,34 @@ fn lower_join(
             flush(draft, before, tests, column)?;
             tests.clear();
             draft.push(Part::Not)?;
-            Ok(kept(before, behind))
+            let place = kept(behind.tag, before);
+            Ok(Behind {
+                place,
+                tag: behind.tag,
+            })
         }
         Kind::And(_, second) => {
             flush(draft, before, tests, column)?;
             tests.clear();
-            let end = lower_at(alloc, draft, below, behind, second)?;
+            let last = lower_at(alloc, draft, below, behind.place, second)?;
             draft.push(Part::And)?;
-            Ok(end)
+            let tag = either(behind.tag, last.tag);
+            Ok(Behind {
+                place: last.place,
+                tag,
+            })
         }
         Kind::Or(_, second) => match test_at(below, second) {
             Some((test, column)) => lower_or_test(draft, tests, before, behind, test, column),
             None => {
                 flush(draft, before, tests, column)?;
                 tests.clear();
-                let middle = kept(before, behind);
-                let end = lower_at(alloc, draft, below, middle, second)?;
+                let middle = kept(behind.tag, before);
+                let last = lower_at(alloc, draft, below, middle, second)?;
                 draft.push(Part::Or)?;
-                Ok(kept(middle, end))
+                let tag = either(behind.tag, last.tag);
+                let place = kept(tag, before);
+                Ok(Behind { place, tag })
             }
         },
         Kind::Every => Ok(behind),
@@ -203,7 +242,7 @@ fn lower_at(
     nodes: &[Node],
     before: Option<Place>,
     place: usize,
-) -> Result<Option<Place>, LowerFault>
+) -> Result<Behind, LowerFault>
     ensures { IfOk result (λ behind. Lowers (expr_at nodes.now place) before behind draft.old.parts.items draft.new.parts.items) }
 {
     let Spine { joins, leaf, limit } = way_down(alloc, nodes, place)?;
@@ -229,6 +268,8 @@ fn lower_at(
 
 /// The condition that says of packets of this link type what the expression does.
 pub fn lower(alloc: Global, tree: &Tree, link: Link) -> Result<Cond, LowerFault>
+    // What libpcap reads otherwise isn't taken: tests behind a tag that may be missing, and those that their layer doesn't answer.
+    ensures can { IfOk result (λ _. refused.can (expr_of tree.now) (Some (layers.start link)) ≡ true) }
     ensures means { IfOk result (λ cond. (packet : Packet) → means cond packet ≡ holds (expr_of tree.now) packet (layers.start link)) }
 {
     let mut draft = Draft::new(alloc);

@@ -7,3 +7,5 @@ pub mod Values
 pub mod Asked
 pub mod Lists
 pub mod Holds
+pub mod Refused
+pub mod Laws

@@ -2,6 +2,7 @@
 
 ghost use Rattle.std.specs.Prelude.{◌≡◌};
 ghost use Rattle.expr_meaning.specs.Asked as spec;
+ghost use Rattle.expr_meaning.specs.Refused as refused;
 
 use crate::carriage::{Carriage, carriage_of};
 use crate::place::Layer;
@@ -141,5 +142,27 @@ pub fn can_load(layer: Layer, protocol: Protocol) -> bool
         Carriage::Both(_) => true,
         Carriage::Ip(_) => true,
         Carriage::Ip6(_) => true,
+    }
+}
+
+/// A tag moves the layer that the tests behind it are about.
+pub fn is_tag(test: Test) -> bool
+    ensures { result ≡ refused.is_tag test }
+{
+    match test {
+        Test::Vlan(_) => true,
+        Test::Mpls(_) => true,
+        Test::Pppoes(_) => true,
+        Test::Is(_) => false,
+        Test::Net4(_, _, _) => false,
+        Test::Net6(_, _, _) => false,
+        Test::Mac(_, _) => false,
+        Test::Ports(_, _, _, _) => false,
+        Test::Proto(_, _) => false,
+        Test::EtherBroadcast => false,
+        Test::IpBroadcast => false,
+        Test::EtherMulticast => false,
+        Test::IpMulticast => false,
+        Test::Ip6Multicast => false,
     }
 }

@@ -6,4 +6,6 @@ mod conditions;
 #[cfg(test)]
 mod exprs;
 #[cfg(test)]
+mod lowering;
+#[cfg(test)]
 mod words;

@@ -1,6 +1,5 @@
-use Rattle.std.proofs.Common.{subst}
 use Rattle.expr_tree.specs.Expr.{value_at}
-use Rattle.expr_lower.proofs.Comparing.{loads_lower, turned_lower, known_lower}
+use Rattle.expr_lower.proofs.Comparing.{loads_lower, turned_lower}
 use Rattle.expr_lower.proofs.compare.compare.Goals as goal
 
 pub returns-in_ok-relate-in-Loading-right : goal.returns-in_ok-relate-in-Loading-right

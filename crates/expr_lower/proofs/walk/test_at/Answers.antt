@@ -1,4 +1,4 @@
-use Rattle.std.proofs.Common.{sym, ◌∙◌, arith}
+use Rattle.std.proofs.Common.{arith}
 use Rattle.expr_lower.proofs.Spining.{test_is, test_beyond}
 use Rattle.expr_lower.proofs.walk.test_at.Goals as goal
 

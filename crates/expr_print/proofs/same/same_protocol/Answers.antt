@@ -1,0 +1,7 @@
+use Rattle.std.proofs.Common.{rules, sym, ◌∙◌}
+use denote.Enum.Bare.{same_true}
+use Rattle.expr_words.specs.contracts.protocol.Protocol.{the_type}
+use Rattle.expr_print.proofs.same.same_protocol.Goals as goal
+
+pub returns : goal.returns
+returns c is = same_true the_type (search rules) _ _ (sym c.eq.ensures ∙ is)

@@ -1,0 +1,7 @@
+use Rattle.std.proofs.Common.{rules, sym, ◌∙◌}
+use denote.Enum.Bare.{same_true}
+use Rattle.expr_tree.specs.contracts.calc.Relation.{the_type}
+use Rattle.expr_print.proofs.same.same_relation.Goals as goal
+
+pub returns : goal.returns
+returns c is = same_true the_type (search rules) _ _ (sym c.eq.ensures ∙ is)
