@@ -1,5 +1,5 @@
 -- The picture of a trace as an SVG file: a message sequence diagram. A column is a core, and a row an event, with its line.
-use Rattle.std.specs.Prelude.{ℕ, ◌+◌, ◌*◌, ◌==◌, if◌then◌else◌, max, Bool, List, [], ◌∷◌, ◌++◌, length, codes, Option, Some, None}
+use Rattle.std.specs.Prelude.{ℕ, ◌+◌, ◌-◌, ◌*◌, ◌==◌, if◌then◌else◌, max, Bool, false, List, [], ◌∷◌, ◌++◌, length, codes, Option, Some, None}
 use Rattle.std.specs.List.{flat_map, range_with_len}
 use Rattle.std.specs.Fmt.{decimal}
 use Rattle.trace_lines.specs.declared.event.Act.{Act}
@@ -85,22 +85,28 @@ dot_class refused a = if refused then codes "r" else event_class a
 abbrev pub words_class : Bool → List ℕ
 words_class refused = if refused then codes "w" else codes "t"
 
--- the version that the core comes to
+-- the version that the core comes to: right of all cores, where no arrow is
 abbrev pub version : ℕ → ℕ → List ℕ → List ℕ
-version core row number = if length number == 0 then [] else label (codes "v") (130 * core + 46) (22 * row + 88) (codes "v" ++ number)
+version highest row number = if length number == 0 then [] else label (codes "v") (130 * highest + 100) (22 * row + 88) (codes "v" ++ number)
 
-abbrev pub dot : List ℕ → ℕ → ℕ → List ℕ
-dot class core row = stroke class (x_of core) (y_of row) (x_of core) (y_of row)
+-- how far a dot reaches to either side: a square is a stroke as long as it is wide, and a round dot is the ends of a stroke alone
+abbrev pub reach : Bool → Act → ℕ
+reach false (act.Rx core) = 4
+reach refused a = 0
 
+abbrev pub dot : List ℕ → ℕ → ℕ → ℕ → List ℕ
+dot class reach core row = stroke class (x_of core - reach) (y_of row) (x_of core + reach) (y_of row)
+
+-- words right of the versions
 abbrev pub words_at : List ℕ → ℕ → ℕ → List ℕ → List ℕ
-words_at class core y words = label class (130 * core + 75) (y + 4) words
+words_at class highest y words = label class (130 * highest + 110) (y + 4) words
 
 -- an event's dot, version and line
-abbrev pub mark : Drawn → List ℕ
-mark d =
-    dot (dot_class d.shown.no d.shown.event.act) (core_of d.shown.event.act) d.row
-    ++ version (core_of d.shown.event.act) d.row d.shown.version
-    ++ words_at (words_class d.shown.no) (core_of d.shown.event.act) (y_of d.row) d.shown.text
+abbrev pub mark : ℕ → Drawn → List ℕ
+mark highest d =
+    dot (dot_class d.shown.no d.shown.event.act) (reach d.shown.no d.shown.event.act) (core_of d.shown.event.act) d.row
+    ++ version highest d.row d.shown.version
+    ++ words_at (words_class d.shown.no) highest (y_of d.row) d.shown.text
 
 abbrev pub kind_word : MessageKind → List ℕ
 kind_word kind.Prepare = codes "prepare"
@@ -112,14 +118,14 @@ kind_word kind.Submit = codes "submit"
 kind_word kind.Reply = codes "reply"
 
 -- a message that nobody took: from its sender to a row of its own, below the events
-abbrev pub open_arrow : ℕ → ℕ → TraceMessage → List ℕ
-open_arrow rows place m =
+abbrev pub open_arrow : ℕ → ℕ → ℕ → TraceMessage → List ℕ
+open_arrow highest rows place m =
     stroke (codes "o") (x_of m.from) (y_of m.row) (x_of m.to) (y_below rows place)
-    ++ words_at (codes "u") m.to (y_below rows place) (kind_word m.kind ++ codes " under way")
+    ++ words_at (codes "u") highest (y_below rows place) (kind_word m.kind ++ codes " under way")
 
-abbrev pub open_from : ℕ → ℕ → List TraceMessage → List ℕ
-open_from rows place [] = []
-open_from rows place (m ∷ ms) = open_arrow rows place m ++ open_from rows (place + 1) ms
+abbrev pub open_from : ℕ → ℕ → ℕ → List TraceMessage → List ℕ
+open_from highest rows place [] = []
+open_from highest rows place (m ∷ ms) = open_arrow highest rows place m ++ open_from highest rows (place + 1) ms
 
 -- the length of the longest line
 abbrev pub longest_from : ℕ → List Drawn → ℕ
@@ -127,15 +133,15 @@ longest_from so_far [] = so_far
 longest_from so_far (d ∷ ds) = longest_from (max so_far (length d.shown.text)) ds
 
 abbrev pub width_of : ℕ → ℕ → ℕ
-width_of highest longest = max 390 (130 * highest + 90 + 7 * longest)
+width_of highest longest = max 390 (130 * highest + 125 + 7 * longest)
 
 -- How it looks, in light and in dark, and the legend
 
 unfoldable pub style : List ℕ
-style = codes "<style>text{fill:#222;stroke:#fff;stroke-width:3px;paint-order:stroke}path{fill:none;stroke:#555}.g{fill:#fff}.l{stroke:#bbb}.c{font-weight:bold;text-anchor:middle}.v{fill:#070;font-weight:bold;text-anchor:end}.a{marker-end:url(#h)}.o{stroke:#a50;stroke-dasharray:5 4;marker-end:url(#h)}.e,.p,.r{stroke-width:8px;stroke-linecap:round}.p{stroke:#06c;stroke-linecap:square}.n,.r{stroke:#c00}.w{fill:#b00}.u{fill:#850}#h path{fill:#777;stroke:none}@media(prefers-color-scheme:dark){text{fill:#ddd;stroke:#181818}path{stroke:#aaa}.g{fill:#181818}.l{stroke:#555}.v{fill:#7d7}.o{stroke:#fb6}.p{stroke:#6bf}.n,.r{stroke:#f66}.w{fill:#f88}.u{fill:#fb6}}</style>\n<defs><marker id='h' viewBox='0 0 8 8' refX='11' refY='4' markerWidth='8' markerHeight='8' markerUnits='userSpaceOnUse' orient='auto'><path d='M0 0L8 4L0 8Z'/></marker></defs>\n<rect class='g' width='100%' height='100%'/>\n"
+style = codes "<style>text{fill:#222;stroke:#fff;stroke-width:3px;paint-order:stroke}path{fill:none;stroke:#555}.g{fill:#fff}.l{stroke:#bbb}.c{font-weight:bold;text-anchor:middle}.v{fill:#070;font-weight:bold;text-anchor:end}.a{marker-end:url(#h)}.o{stroke:#a50;stroke-dasharray:5 4;marker-end:url(#h)}.e,.p,.r{stroke-width:8px;stroke-linecap:round}.p{stroke:#06c;stroke-linecap:butt}.n,.r{stroke:#c00}.w{fill:#b00}.u{fill:#850}#h path{fill:#777;stroke:none}@media(prefers-color-scheme:dark){text{fill:#ddd;stroke:#181818}path{stroke:#aaa}.g{fill:#181818}.l{stroke:#555}.v{fill:#7d7}.o{stroke:#fb6}.p{stroke:#6bf}.n,.r{stroke:#f66}.w{fill:#f88}.u{fill:#fb6}}</style>\n<defs><marker id='h' viewBox='0 0 8 8' refX='11' refY='4' markerWidth='8' markerHeight='8' markerUnits='userSpaceOnUse' orient='auto'><path d='M0 0L8 4L0 8Z'/></marker></defs>\n<rect class='g' width='100%' height='100%'/>\n"
 
 unfoldable pub legend : List ℕ
-legend = codes "<path class='e' d='M20 20L20 20'/><text x='28' y='24'>event</text>\n<path class='p' d='M82 20L82 20'/><text x='90' y='24'>packet</text>\n<path class='r' d='M151 20L151 20'/><text x='159' y='24'>refused, vetoed</text>\n<path class='o' d='M276 20L306 20'/><text x='310' y='24'>under way</text>\n"
+legend = codes "<path class='e' d='M20 20L20 20'/><text x='28' y='24'>event</text>\n<path class='p' d='M78 20L86 20'/><text x='90' y='24'>packet</text>\n<path class='r' d='M151 20L151 20'/><text x='159' y='24'>refused, vetoed</text>\n<path class='o' d='M276 20L306 20'/><text x='310' y='24'>under way</text>\n"
 
 unfoldable pub view_box : ℕ → ℕ → List ℕ
 view_box width height = codes "' viewBox='0 0 " ++ decimal width ++ codes " " ++ decimal height
@@ -157,7 +163,7 @@ abbrev pub svg_of : ℕ → List Drawn → List TraceMessage → List ℕ
 svg_of highest rows left =
     head (width_of highest (longest_from 0 rows)) (y_below (length rows) (length left) + 20) ++ style ++ legend
     ++ columns (y_below (length rows) (length left)) highest
-    ++ flat_map arrow rows ++ open_from (length rows) 0 left ++ flat_map mark rows ++ codes "</svg>\n"
+    ++ flat_map arrow rows ++ open_from highest (length rows) 0 left ++ flat_map (mark highest) rows ++ codes "</svg>\n"
 
 abbrev pub svg : List Shown → List ℕ
 svg events = svg_of (highest_of events) (drawn_of events) (left_of events)

@@ -1,6 +1,6 @@
 //! The picture of a trace as an SVG file.
 
-ghost use Rattle.std.specs.Prelude.{◌≡◌, ◌++◌, ◌+◌, ◌*◌, ◌<◌, ◌^◌, map, length, codes, IfOk, OnOk};
+ghost use Rattle.std.specs.Prelude.{◌≡◌, ◌++◌, ◌+◌, ◌*◌, ◌<◌, ◌≤◌, ◌^◌, map, length, codes, IfOk, OnOk};
 ghost use Rattle.std.specs.List.{flat_map};
 ghost use Rattle.std.specs.Fmt.{decimal};
 ghost use Rattle.trace_lines.specs.Views.{drawn};
@@ -15,11 +15,11 @@ const HEAD_END: &[u8] =
 
 /// How it looks.
 const STYLE: &[u8] =
-    b"<style>text{fill:#222;stroke:#fff;stroke-width:3px;paint-order:stroke}path{fill:none;stroke:#555}.g{fill:#fff}.l{stroke:#bbb}.c{font-weight:bold;text-anchor:middle}.v{fill:#070;font-weight:bold;text-anchor:end}.a{marker-end:url(#h)}.o{stroke:#a50;stroke-dasharray:5 4;marker-end:url(#h)}.e,.p,.r{stroke-width:8px;stroke-linecap:round}.p{stroke:#06c;stroke-linecap:square}.n,.r{stroke:#c00}.w{fill:#b00}.u{fill:#850}#h path{fill:#777;stroke:none}@media(prefers-color-scheme:dark){text{fill:#ddd;stroke:#181818}path{stroke:#aaa}.g{fill:#181818}.l{stroke:#555}.v{fill:#7d7}.o{stroke:#fb6}.p{stroke:#6bf}.n,.r{stroke:#f66}.w{fill:#f88}.u{fill:#fb6}}</style>\n<defs><marker id='h' viewBox='0 0 8 8' refX='11' refY='4' markerWidth='8' markerHeight='8' markerUnits='userSpaceOnUse' orient='auto'><path d='M0 0L8 4L0 8Z'/></marker></defs>\n<rect class='g' width='100%' height='100%'/>\n";
+    b"<style>text{fill:#222;stroke:#fff;stroke-width:3px;paint-order:stroke}path{fill:none;stroke:#555}.g{fill:#fff}.l{stroke:#bbb}.c{font-weight:bold;text-anchor:middle}.v{fill:#070;font-weight:bold;text-anchor:end}.a{marker-end:url(#h)}.o{stroke:#a50;stroke-dasharray:5 4;marker-end:url(#h)}.e,.p,.r{stroke-width:8px;stroke-linecap:round}.p{stroke:#06c;stroke-linecap:butt}.n,.r{stroke:#c00}.w{fill:#b00}.u{fill:#850}#h path{fill:#777;stroke:none}@media(prefers-color-scheme:dark){text{fill:#ddd;stroke:#181818}path{stroke:#aaa}.g{fill:#181818}.l{stroke:#555}.v{fill:#7d7}.o{stroke:#fb6}.p{stroke:#6bf}.n,.r{stroke:#f66}.w{fill:#f88}.u{fill:#fb6}}</style>\n<defs><marker id='h' viewBox='0 0 8 8' refX='11' refY='4' markerWidth='8' markerHeight='8' markerUnits='userSpaceOnUse' orient='auto'><path d='M0 0L8 4L0 8Z'/></marker></defs>\n<rect class='g' width='100%' height='100%'/>\n";
 
 /// What its marks mean.
 const LEGEND: &[u8] =
-    b"<path class='e' d='M20 20L20 20'/><text x='28' y='24'>event</text>\n<path class='p' d='M82 20L82 20'/><text x='90' y='24'>packet</text>\n<path class='r' d='M151 20L151 20'/><text x='159' y='24'>refused, vetoed</text>\n<path class='o' d='M276 20L306 20'/><text x='310' y='24'>under way</text>\n";
+    b"<path class='e' d='M20 20L20 20'/><text x='28' y='24'>event</text>\n<path class='p' d='M78 20L86 20'/><text x='90' y='24'>packet</text>\n<path class='r' d='M151 20L151 20'/><text x='159' y='24'>refused, vetoed</text>\n<path class='o' d='M276 20L306 20'/><text x='310' y='24'>under way</text>\n";
 
 fn x_of(core: u16) -> u128
     ensures { result ≡ spec.x_of core }
@@ -187,25 +187,51 @@ fn words_class(no: bool) -> &'static [u8]
     if no { b"w" } else { b"t" }
 }
 
-fn push_dot(text: &mut Vec<u8>, class: &[u8], core: u16, row: usize) -> Result<(), AllocError>
-    ensures { OnOk result (text.new.items ≡ text.old.items ++ spec.dot class.now core row) }
+/// How far a dot reaches to either side of its place.
+fn reach(no: bool, act: Act) -> u128
+    ensures is { result ≡ spec.reach no act }
+    ensures bound { result ≤ 4 }
 {
-    let at = Point {
-        x: x_of(core),
-        y: y_of(row),
-    };
-    push_stroke(text, class, at, at)
+    match act {
+        Act::Rx(_) if !no => 4,
+        _ => 0,
+    }
+}
+
+fn push_dot(
+    text: &mut Vec<u8>,
+    class: &[u8],
+    reach: u128,
+    core: u16,
+    row: usize,
+) -> Result<(), AllocError>
+    requires { reach ≤ 4 }
+    ensures { OnOk result (text.new.items ≡ text.old.items ++ spec.dot class.now reach core row) }
+{
+    let x = x_of(core);
+    let y = y_of(row);
+    push_stroke(
+        text,
+        class,
+        Point { x: x - reach, y },
+        Point { x: x + reach, y },
+    )
 }
 
 /// The version that the core comes to.
-fn push_version(text: &mut Vec<u8>, core: u16, row: usize, number: &[u8]) -> Result<(), AllocError>
-    ensures { OnOk result (text.new.items ≡ text.old.items ++ spec.version core row number.now) }
+fn push_version(
+    text: &mut Vec<u8>,
+    highest: u16,
+    row: usize,
+    number: &[u8],
+) -> Result<(), AllocError>
+    ensures { OnOk result (text.new.items ≡ text.old.items ++ spec.version highest row number.now) }
 {
     if number.is_empty() {
         return Ok(());
     }
     let at = Point {
-        x: 130 * u128::from(core) + 46,
+        x: 130 * u128::from(highest) + 100,
         y: 22 * row as u128 + 88,
     };
     open_label(text, b"v", at)?;
@@ -214,36 +240,37 @@ fn push_version(text: &mut Vec<u8>, core: u16, row: usize, number: &[u8]) -> Res
     close_label(text)
 }
 
-/// Words beside a core begin.
-fn open_words(text: &mut Vec<u8>, class: &[u8], core: u16, y: u128) -> Result<(), AllocError>
+/// Words right of the cores begin.
+fn open_words(text: &mut Vec<u8>, class: &[u8], highest: u16, y: u128) -> Result<(), AllocError>
     requires { y < 2 ^ 100 }
-    ensures { OnOk result (text.new.items ≡ text.old.items ++ spec.text_tag class.now (130 * core + 75) (y + 4)) }
+    ensures { OnOk result (text.new.items ≡ text.old.items ++ spec.text_tag class.now (130 * highest + 110) (y + 4)) }
 {
     let at = Point {
-        x: 130 * u128::from(core) + 75,
+        x: 130 * u128::from(highest) + 110,
         y: y + 4,
     };
     open_label(text, class, at)
 }
 
 /// An event's dot, version and line.
-fn push_mark(text: &mut Vec<u8>, row: &Row<'_>) -> Result<(), AllocError>
-    ensures { OnOk result (text.new.items ≡ text.old.items ++ spec.mark (drawn row.now)) }
+fn push_mark(text: &mut Vec<u8>, highest: u16, row: &Row<'_>) -> Result<(), AllocError>
+    ensures { OnOk result (text.new.items ≡ text.old.items ++ spec.mark highest (drawn row.now)) }
 {
     let line = row.line;
-    let core = core_of(line.event.act);
-    push_dot(text, dot_class(line.no, line.event.act), core, row.row)?;
-    push_version(text, core, row.row, line.version)?;
-    open_words(text, words_class(line.no), core, y_of(row.row))?;
+    let act = line.event.act;
+    let class = dot_class(line.no, act);
+    push_dot(text, class, reach(line.no, act), core_of(act), row.row)?;
+    push_version(text, highest, row.row, line.version)?;
+    open_words(text, words_class(line.no), highest, y_of(row.row))?;
     text.extend_from_slice(line.text)?;
     close_label(text)
 }
 
-fn push_marks(text: &mut Vec<u8>, rows: &[Row<'_>]) -> Result<(), AllocError>
-    ensures { OnOk result (text.new.items ≡ text.old.items ++ flat_map spec.mark (map drawn rows.now)) }
+fn push_marks(text: &mut Vec<u8>, highest: u16, rows: &[Row<'_>]) -> Result<(), AllocError>
+    ensures { OnOk result (text.new.items ≡ text.old.items ++ flat_map (spec.mark highest) (map drawn rows.now)) }
 {
     for row in rows {
-        push_mark(text, row)?;
+        push_mark(text, highest, row)?;
     }
     Ok(())
 }
@@ -265,11 +292,12 @@ pub(crate) fn kind_word(kind: MessageKind) -> &'static [u8]
 /// A message that nobody took.
 fn push_open(
     text: &mut Vec<u8>,
+    highest: u16,
     rows: usize,
     place: usize,
     message: TraceMessage,
 ) -> Result<(), AllocError>
-    ensures { OnOk result (text.new.items ≡ text.old.items ++ spec.open_arrow rows place message) }
+    ensures { OnOk result (text.new.items ≡ text.old.items ++ spec.open_arrow highest rows place message) }
 {
     let y = y_below(rows, place);
     let from = Point {
@@ -281,17 +309,22 @@ fn push_open(
         y,
     };
     push_stroke(text, b"o", from, to)?;
-    open_words(text, b"u", message.to, y)?;
+    open_words(text, b"u", highest, y)?;
     text.extend_from_slice(kind_word(message.kind))?;
     text.extend_from_slice(b" under way")?;
     close_label(text)
 }
 
-fn push_all_open(text: &mut Vec<u8>, rows: usize, left: &[TraceMessage]) -> Result<(), AllocError>
-    ensures { OnOk result (text.new.items ≡ text.old.items ++ spec.open_from rows 0 left.now) }
+fn push_all_open(
+    text: &mut Vec<u8>,
+    highest: u16,
+    rows: usize,
+    left: &[TraceMessage],
+) -> Result<(), AllocError>
+    ensures { OnOk result (text.new.items ≡ text.old.items ++ spec.open_from highest rows 0 left.now) }
 {
     for place in 0..left.len() {
-        push_open(text, rows, place, left[place])?;
+        push_open(text, highest, rows, place, left[place])?;
     }
     Ok(())
 }
@@ -310,7 +343,7 @@ fn longest(rows: &[Row<'_>]) -> usize
 fn width_of(highest: u16, longest: usize) -> u128
     ensures { result ≡ spec.width_of highest longest }
 {
-    (130 * u128::from(highest) + 90 + 7 * longest as u128).max(390)
+    (130 * u128::from(highest) + 125 + 7 * longest as u128).max(390)
 }
 
 #[tactic(auto, unfolding(crate::specs::Svg::view_box))]
@@ -386,8 +419,8 @@ pub(crate) fn svg(alloc: Global, picture: &Picture<'_>) -> Result<Vec<u8>, Alloc
     push_legend(&mut text)?;
     push_columns(&mut text, bottom, picture.highest)?;
     push_arrows(&mut text, rows)?;
-    push_all_open(&mut text, rows.len(), left)?;
-    push_marks(&mut text, rows)?;
+    push_all_open(&mut text, picture.highest, rows.len(), left)?;
+    push_marks(&mut text, picture.highest, rows)?;
     text.extend_from_slice(b"</svg>\n")?;
     Ok(text)
 }

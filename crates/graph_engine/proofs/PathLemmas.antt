@@ -5,9 +5,11 @@ use Rattle.bpf_insn.specs.declared.insn.Insn.{Insn}
 use Rattle.filter_verify.specs.declared.rules.Refusal.{Refusal}
 use Rattle.filter_verify.specs.declared.rules.Refusal.TheVariants as refusals
 use Rattle.filter_verify.specs.Paths.{IsWalk, Path}
+use Rattle.filter_verify.specs.Rules.{Sound}
 use Rattle.filter_verify.proofs.Forward.{Successor-later}
+use Rattle.filter_verify.proofs.Reasons.{Refuses-sound}
 use Rattle.graph_engine.specs.declared.graph.Mark.{Mark}
-use Rattle.graph_engine.specs.Graph.{is_on, is_refused, mark_of, next_on, path_of}
+use Rattle.graph_engine.specs.Graph.{graph_text, is_on, is_refused, mark_of, next_on, path_of}
 use Rattle.graph_engine.specs.Paths.{Ascends, IsAhead}
 use Rattle.graph_engine.specs.Showing.{Verifies}
 
@@ -68,3 +70,8 @@ mark_passed count pc refusal rest refused is ahead other =
     let passed = ahead_passed (path_of refusal) rest pc ahead other in
     let mark : Bool → Bool → Option ℕ → Mark = λ r b n. record { refused = r; on_path = b; next = n } in
     ap (λ r. mark r false None) is ∙ ap (λ b. mark (is_refused count refusal pc) b None) passed.0 ∙ ap (λ n. mark (is_refused count refusal pc) (is_on (path_of refusal) pc) n) passed.1
+
+-- no reason is found to refuse a sound program
+pub sound_unmarked : (program : List Insn) (refusal : Option Refusal) (text : List ℕ) → Verifies program refusal → text ≡ graph_text program refusal → Sound program → text ≡ graph_text program None
+sound_unmarked program None text verifies is sound = is
+sound_unmarked program (Some refusal) text verifies is sound = absurd (Refuses-sound program refusal sound verifies)

@@ -6,4 +6,4 @@ mod graph;
 mod program;
 
 pub use explain::run_explain;
-pub use program::run_graph;
+pub use program::{draw_program, run_graph};

@@ -6,4 +6,4 @@ use Rattle.draw_engine.specs.Svg.{mark}
 use Rattle.draw_engine.proofs.svg.push_marks.Given as goal
 
 abbrev pub invariant-loop-row : goal.invariant-loop-row
-invariant-loop-row l = l.text.items ++ flat_map mark (map drawn (drop l.row-index l.rows)) ≡ l.fn.text.items ++ flat_map mark (map drawn l.rows)
+invariant-loop-row l = l.text.items ++ flat_map (mark l.highest) (map drawn (drop l.row-index l.rows)) ≡ l.fn.text.items ++ flat_map (mark l.highest) (map drawn l.rows)
