@@ -329,6 +329,28 @@ try_live() {
     fi
 }
 
+# WORDS: `ending` as the sanitizers of these words build it.
+ends_clean() {
+    build11 ending -g "-fsanitize=$1" && "$made/ending"
+}
+
+try_ending() {
+    if [ -n "$run" ]; then
+        skip "ending with sanitizers" "it is emulated"
+    else
+        for sanitizer in address,undefined thread; do
+            if links '' "-fsanitize=$sanitizer" && "$made/try"; then
+                try "ending with -fsanitize=$sanitizer" ends_clean $sanitizer
+            else
+                echo "skipped: ending with -fsanitize=$sanitizer: the compiler hasn't it"
+            fi
+        done
+    fi
+    try "ending.c without a warning" build11 ending
+    try "machines that end core by core" $run "$made/ending"
+    [ -z "$watch" ] || try "ending under valgrind" $watch "$made/ending"
+}
+
 try_cores() {
     cmp mkdemux_cores.h "$folder/include/mkdemux_cores.h" > /dev/null || echo "note: $folder/include/mkdemux_cores.h isn't c/mkdemux_cores.h"
     accepts_both mkdemux_cores
@@ -339,6 +361,9 @@ try_cores() {
     [ -z "$watch" ] || try "core_calls under valgrind" $watch "$made/core_calls"
     try "fair.c without a warning" build fair mkdemux_cores
     try "busy cores starve nobody" $run "$made/fair"
+    try "rounds.c without a warning" build rounds mkdemux_cores
+    try "a request is decided within so many rounds" $run "$made/rounds"
+    try_ending
     try "scale.c without a warning" build scale mkdemux_cores -Wl,--wrap=malloc,--wrap=realloc,--wrap=free
     try "65,536 filters, and 64 cores" $run "$made/scale"
     [ -z "$watch" ] || try "1,000 filters, and 64 cores under valgrind" $watch "$made/scale" 1000

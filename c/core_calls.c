@@ -956,11 +956,12 @@ static void says(void)
     CHECK(!strcmp(mkdemux_core_word(MKDEMUX_CORE_NOT_CORES), "NoCores"));
     CHECK(!strcmp(mkdemux_core_word(MKDEMUX_CORE_BAD_RIGHTS), "BadRights") && !strcmp(mkdemux_core_word(11), "NoFilter"));
     CHECK(!strcmp(mkdemux_core_word(MKDEMUX_CORE_BAD_LIMITS), "BadLimits") && !strcmp(mkdemux_core_word(14), "?"));
+    CHECK(!strcmp(mkdemux_core_word(MKDEMUX_CORE_PEER_CLOSED), "PeerClosed") && !strcmp(mkdemux_core_word(16), "?"));
     CHECK(!strcmp(mkdemux_core_rule_word(MKDEMUX_RULE_NO_CAP), "NoCap"));
     CHECK(!strcmp(mkdemux_core_rule_word(MKDEMUX_RULE_MEMORY), "NoMemory"));
     CHECK(!strcmp(mkdemux_core_rule_word(MKDEMUX_RULE_BAD_PROGRAM + 9), "BadProgram"));
     CHECK(!strcmp(mkdemux_core_rule_word(0), "?") && !strcmp(mkdemux_core_rule_word(15), "DomainFull") && !strcmp(mkdemux_core_rule_word(16), "?"));
-    CHECK(sizeof(mkdemux_turned) == 56 && sizeof(struct mkdemux_kept) == 8 && sizeof(struct mkdemux_insn) == 8);
+    CHECK(sizeof(mkdemux_turned) == 64 && sizeof(struct mkdemux_kept) == 8 && sizeof(struct mkdemux_insn) == 8);
 }
 
 /* ---- Memory refused ---- */

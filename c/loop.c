@@ -58,7 +58,8 @@ static int ends(uint32_t answer)
 int main(void)
 {
     static const uint32_t answers[] = {
-        MKDEMUX_CORE_IDLE, MKDEMUX_CORE_NO_MEMORY, MKDEMUX_CORE_STOPPED, MKDEMUX_CORE_SPENT, MKDEMUX_CORE_CLOSED,
+        MKDEMUX_CORE_IDLE, MKDEMUX_CORE_PEER_CLOSED, MKDEMUX_CORE_NO_MEMORY, MKDEMUX_CORE_STOPPED, MKDEMUX_CORE_SPENT,
+        MKDEMUX_CORE_CLOSED,
     };
     size_t at, wrong = 0;
     for (at = 0; at < sizeof answers / sizeof *answers; at++)

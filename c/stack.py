@@ -14,10 +14,10 @@ import sys
 
 # Bytes that a call may take on x86-64 Linux; all that aren't named take at most 2,048. Elsewhere it may be a quarter more.
 MOST = {
-    "mkdemux_boot_cores": 3456,
-    "mkdemux_boot_limits_cores": 3520,
-    "mkdemux_turn": 3456,
-    "mkdemux_settle": 3392,
+    "mkdemux_boot_cores": 3520,
+    "mkdemux_boot_limits_cores": 3568,
+    "mkdemux_turn": 4032,
+    "mkdemux_settle": 3968,
     "mkdemux_predecode": 3648,
     "mkdemux_compile": 720_000,
     "mkdemux_explain": 720_000,
@@ -38,6 +38,7 @@ TIMES = {
     "core::slice::sort::pivot::median_of_medians": 4,
     "mkdemux_cores::settling::fault_of": 65,
     "mkdemux_cores::settling::take_all": 65,
+    "mkdemux_cores::naming::name_all": 65,
     "mkdemux_cores::booting::put_all": 65,
 }
 OUTSIDE = {"malloc", "realloc", "free", "memcpy", "memmove", "memset", "memcmp"}

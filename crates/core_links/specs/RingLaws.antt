@@ -19,11 +19,12 @@ pub SameSlot-along : (a b c : Option Link) → SameSlot a b → SameSlot b c →
 SameSlot-along a b c h k = place-along SameLink SameLink-along a b c h k
 
 pub SameLinks-itself : (a : RingLinks) → SameLinks a a
-SameLinks-itself a = record { own = refl; count = refl; each = λ peer. SameSlot-itself (link_to a peer) }
+SameLinks-itself a = record { own = refl; machine = refl; count = refl; each = λ peer. SameSlot-itself (link_to a peer) }
 
 pub SameLinks-along : (a b c : RingLinks) → SameLinks a b → SameLinks b c → SameLinks a c
 SameLinks-along a b c h k = record {
   own = k.own ∙ h.own;
+  machine = k.machine ∙ h.machine;
   count = k.count ∙ h.count;
   each = λ peer. SameSlot-along (link_to a peer) (link_to b peer) (link_to c peer) (h.each peer) (k.each peer);
 }

@@ -16,6 +16,14 @@ own_of r = r.own
 abbrev pub places_of : RingLinks → ℕ
 places_of r = vec_len r.slots
 
+-- the number of the core's machine: 0 until it is named
+abbrev pub machine_of : RingLinks → ℕ
+machine_of r = r.machine
+
+-- the same links, of a core of the machine with this number
+abbrev pub with_machine : ℕ → RingLinks → RingLinks
+with_machine machine r = record r { machine = machine }
+
 -- the link to a peer, if it was joined
 abbrev pub link_to : RingLinks → ℕ → Option Link
 link_to r peer = slice_index_or r.slots.items peer None
@@ -46,9 +54,10 @@ SameLink old new = SameSender old.sender new.sender × SameReceiver old.receiver
 abbrev pub SameSlot : Option Link → Option Link → Type 0
 SameSlot old new = SamePlace SameLink old new
 
--- the same links of the same core, before and after a call
+-- the same links of the same core of the same machine, before and after a call
 pub record SameLinks (old new : RingLinks) : Type 0 where
   pub own : own_of new ≡ own_of old
+  pub machine : machine_of new ≡ machine_of old
   pub count : places_of new ≡ places_of old
   pub each : (peer : ℕ) → SameSlot (link_to old peer) (link_to new peer)
 

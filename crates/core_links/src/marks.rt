@@ -51,7 +51,7 @@ impl Marks {
 }
 
 /// The bits with that of a peer set, if it has one.
-fn with_bit(bits: u64, peer: usize) -> u64
+pub(crate) fn with_bit(bits: u64, peer: usize) -> u64
     ensures here { peer < 64 → bit_at result peer ≡ 1 }
     ensures others { (p : ℕ) → p ≢ peer → bit_at result p ≡ bit_at bits p }
 {

@@ -7,7 +7,7 @@ ghost use Rattle.core_links.specs.Ends.{AreEmptyEnds};
 
 use crate::bell::Bell;
 use crate::links::Links;
-use crate::marks::{MARKED, Marks};
+use crate::marks::{MARKED, Marks, with_bit};
 use seq::Shared;
 use std::alloc::{AllocError, Global};
 use ump_ring::{Busy, LineFault, Receiver, Sender, beside};
@@ -46,6 +46,8 @@ pub struct RingLinks {
     heard: u64,
     /// Since then all links were looked at, and nothing was there.
     calm: bool,
+    /// What tells the core's machine from others: 0 until it is named.
+    machine: u64,
     // Peers have numbers of 16 bits.
     ghost most: { vec_len slots ≤ 65535 },
     ghost below: { LieBelow span slots.items },
@@ -62,26 +64,30 @@ impl Drop for RingLinks {
             slots: _,
             span: _,
             marks: _,
-            bell: _,
+            bell,
             heard: _,
             calm: _,
+            machine: _,
         } = self;
+        bell.close();
     }
 }
 
 impl RingLinks {
-    ghost use Rattle.std.specs.Prelude.{◌≡◌, ◌≢◌, ◌<◌, ◌↔◌, ℕ, false, None, Some, IfOk, IsTrue};
+    ghost use Rattle.std.specs.Prelude.{◌≡◌, ◌≢◌, ◌<◌, ◌≤◌, ◌↔◌, ℕ, false, None, Some, IfOk, IsTrue, IsFalse};
+    ghost use Rattle.std.specs.Int.{bit_at};
     ghost use mathlib.Core.List.{IsPrefix};
     ghost use Rattle.ump_ring.specs.Joiners.{shown_items};
     ghost use Rattle.core_links.specs.Views.{IsSameView};
     ghost use Rattle.core_links.specs.Flows.{IsExactAt, IsResting, LooksAt, ring_flow};
-    ghost use Rattle.core_links.specs.RingSlots.{own_of, places_of, link_to, last_of, ring_view, SameLinks, AreJoinedLinks};
+    ghost use Rattle.core_links.specs.RingSlots.{own_of, places_of, machine_of, with_machine, link_to, last_of, ring_view, SameLinks, AreJoinedLinks};
 
     /// The links of core `own`, with places for those to so many peers, from core 0 on. It has none yet. The one error is that there is
     /// no memory.
     pub fn new(alloc: Global, own: u16, places: u16) -> Result<RingLinks, AllocError>
         ensures place { IfOk result (λ r. (own_of r ≡ own) × (places_of r ≡ places)) }
         ensures empty { IfOk result (λ r. (p : ℕ) → link_to r p ≡ None) }
+        ensures unnamed { IfOk result (λ r. machine_of r ≡ 0) }
     {
         let mut slots = Vec::with_capacity(alloc, usize::from(places))?;
         for _ in 0..places {
@@ -95,7 +101,48 @@ impl RingLinks {
             bell: Bell::new(alloc)?,
             heard: 0,
             calm: false,
+            machine: 0,
         })
+    }
+
+    /// The number of the core's machine.
+    pub fn machine(&self) -> u64
+        ensures { result ≡ machine_of self.now }
+    {
+        self.machine
+    }
+
+    /// Names the core's machine: its number from now on.
+    pub fn name_machine(&mut self, machine: u64)
+        ensures { self.new ≡ with_machine machine self.old }
+    {
+        self.machine = machine;
+    }
+
+    /// The peers below `cores` whose cores have ended, as far as their bells say: a bit for each, the least for core 0. No contract says
+    /// that a core has ended.
+    pub fn closed_below(&self, cores: u16) -> u64
+        requires { cores ≤ 64 }
+        ensures below { (p : ℕ) → cores ≤ p → bit_at result p ≡ 0 }
+        ensures joined { (p : ℕ) → link_to self.now p ≡ None → bit_at result p ≡ 0 }
+    {
+        let mut closed = 0;
+        for peer in 0..cores.min(self.span) {
+            if self.has_ended(peer) {
+                closed = with_bit(closed, usize::from(peer));
+            }
+        }
+        closed
+    }
+
+    /// Whether a peer's core has ended, as far as its bell says.
+    fn has_ended(&self, peer: u16) -> bool
+        ensures { link_to self.now peer ≡ None → IsFalse result }
+    {
+        match self.slots.get(usize::from(peer)) {
+            Some(Some(link)) => link.bell.is_closed(),
+            _ => false,
+        }
     }
 
     /// The core's bell, for a peer: one more owner.
@@ -108,6 +155,7 @@ impl RingLinks {
         requires peer { (peer < places_of self.old) × (peer ≢ own_of self.old) }
         requires once { link_to self.old peer ≡ None }
         ensures place { (own_of self.new ≡ own_of self.old) × (places_of self.new ≡ places_of self.old) }
+        ensures machine { machine_of self.new ≡ machine_of self.old }
         ensures joined { link_to self.new peer ≡ Some (record { sender = sender; receiver = receiver; moved = false; bell = bell }) }
         ensures others { (p : ℕ) → p ≢ peer → link_to self.new p ≡ link_to self.old p }
     {

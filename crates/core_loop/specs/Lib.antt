@@ -19,3 +19,4 @@ pub mod Receiving
 pub mod Answering
 pub mod Owning
 pub mod Resting
+pub mod Awaiting

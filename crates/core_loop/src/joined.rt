@@ -5,16 +5,19 @@ ghost use Rattle.core_links.specs.Flows.{ring_flow};
 ghost use Rattle.core_links.specs.RingSlots.{ring_view};
 ghost use Rattle.core_loop.specs.Resting.{AreResting};
 
+use crate::part::Part;
 use crate::running::Core;
-use core_links::RingLinks;
+use core_links::{Links, RingLinks};
 
 impl Core<RingLinks> {
-    ghost use Rattle.std.specs.Prelude.{◌≡◌, ◌↔◌, ℕ, IsTrue};
+    ghost use Rattle.std.specs.Prelude.{◌≡◌, ◌≤◌, ◌↔◌, ℕ, IsTrue, None};
+    ghost use Rattle.std.specs.Int.{bit_at};
     ghost use mathlib.Core.List.{IsPrefix};
     ghost use Rattle.core_links.specs.Views.{IsSameView};
     ghost use Rattle.core_links.specs.Flows.{IsExactAt, LooksAt, ring_flow};
-    ghost use Rattle.core_links.specs.RingSlots.{ring_view, own_of, SameLinks, AreJoinedLinks};
+    ghost use Rattle.core_links.specs.RingSlots.{ring_view, own_of, machine_of, with_machine, link_to, SameLinks, AreJoinedLinks};
     ghost use Rattle.core_loop.specs.Resting.{AreResting};
+    ghost use Rattle.core_loop.specs.Awaiting.{WaitsFor};
 
     /// Shows that what each core took from the other begins what the other sent to it. Nothing changes. Takes no memory.
     pub fn beside(&mut self, other: &mut Core<RingLinks>)
@@ -37,6 +40,41 @@ impl Core<RingLinks> {
         ensures { result ≡ self.now.cores }
     {
         self.cores
+    }
+
+    /// The number of its machine: 0 until it is named.
+    pub fn machine(&self) -> u64
+        ensures { result ≡ machine_of self.now.links }
+    {
+        self.links.machine()
+    }
+
+    /// Names its machine: the number that tells it from others.
+    pub fn name_machine(&mut self, machine: u64)
+        ensures { self.new ≡ record self.old { links = with_machine machine self.old.links } }
+    {
+        self.links.name_machine(machine);
+    }
+
+    /// The cores that have ended, of those that it has a link to, as far as it knows: a bit for each, the least for core 0. No contract
+    /// says that a core has ended.
+    pub fn closed(&self) -> u64
+        ensures below { (p : ℕ) → self.now.cores ≤ p → bit_at result p ≡ 0 }
+        ensures joined { (p : ℕ) → link_to self.now.links p ≡ None → bit_at result p ≡ 0 }
+    {
+        self.links.closed_below(self.cores)
+    }
+
+    /// Whether it is core 0 and waits for an answer of this core, of which its link shows no message.
+    pub fn waits_for(&self, peer: u16) -> bool
+        ensures { IsTrue result ↔ WaitsFor self.now.part (ring_view self.now.links peer) peer }
+    {
+        match &*self.part.inner {
+            Part::Core0(core) => {
+                core.coordinator.awaits(peer) && self.links.shown(peer).is_none()
+            }
+            Part::OtherCore(_) => false,
+        }
     }
 
     /// Whether nothing goes over its links, as this core sees it, and each takes a message.

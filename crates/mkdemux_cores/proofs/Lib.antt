@@ -1,4 +1,6 @@
 pub mod Laying
+mod Linked
+mod Found
 pub mod Values
 pub mod Words
 pub mod Opening

@@ -22,7 +22,7 @@ use Rattle.mkdemux_cores.specs.declared.answers.TheConstants.{DONE, NO_MEMORY, S
 use Rattle.mkdemux_cores.specs.declared.turned.Turned.{Turned}
 use Rattle.mkdemux_cores.specs.declared.turned.TheConstants.{NOTHING}
 use Rattle.mkdemux_cores.specs.Reports.{reported}
-use Rattle.mkdemux_cores.specs.Turns.{HasDone, HasTurned, IsNumber, said}
+use Rattle.mkdemux_cores.specs.Turns.{AreLinked, HasDone, HasTurned, IsNumber, said}
 
 -- the number of what a turn did, and what is told of it
 abbrev pub turn_answer : Turn → ℕ
@@ -60,24 +60,24 @@ pub record Says (turn : Turn) (old new : RingCore) : Type 0 where
   pub dry : turn ≡ Idle → ((p : ℕ) → p < new.cores → ShowsNothing (ring_view new.links p)) → (p : ℕ) → p < new.cores → (ring_flow new.links p).known ≡ 0
 
 -- what is told of a decision says nothing of who is woken
-said_reported : (number : ℕ) (d : Option Decision) (woken more : ℕ) → said (record (reported number d) { woken = woken; more = more }) ≡ reported number d
-said_reported number None woken more = refl
-said_reported number (Some (Committed version made)) woken more = refl
-said_reported number (Some (Refused core (veto.Rule fault))) woken more = refl
-said_reported number (Some (Refused core veto.Budget)) woken more = refl
-said_reported number (Some (Refused core veto.NoMemory)) woken more = refl
+said_reported : (number : ℕ) (d : Option Decision) (woken more closed : ℕ) → said (record (reported number d) { woken = woken; more = more; closed = closed }) ≡ reported number d
+said_reported number None woken more closed = refl
+said_reported number (Some (Committed version made)) woken more closed = refl
+said_reported number (Some (Refused core (veto.Rule fault))) woken more closed = refl
+said_reported number (Some (Refused core veto.Budget)) woken more closed = refl
+said_reported number (Some (Refused core veto.NoMemory)) woken more closed = refl
 
 -- 1 after an answer with which a further turn may do something
 abbrev pub more_for : ℕ → ℕ
 more_for answer = cond ((answer == DONE) || (answer == NO_MEMORY)) 1 0
 
--- what C is told of the turn, with whom it woke and whether there is more
-abbrev pub turn_told : ℕ → Turn → ℕ → ℕ → Turned
-turn_told number turn woken more = record (turn_report number turn) { woken = woken; more = more }
+-- what C is told of the turn, with whom it woke, whether there is more and who is closed
+abbrev pub turn_told : ℕ → Turn → ℕ → ℕ → ℕ → Turned
+turn_told number turn woken more closed = record (turn_report number turn) { woken = woken; more = more; closed = closed }
 
-module _ (old new : RingCore) (number woken more : ℕ) (counts : IsNumber number new) where
-  done : (turn : Turn) → Says turn old new → turn_answer turn ≡ DONE → HasDone (turn_told number turn woken more) old new
-  done (Did s d) says e = record { event = s; decision = d; number = number; counts = counts; did = says.did s d refl; decisions_are = says.decision s d refl; receives_none = says.leave s d refl; told = said_reported number d woken more }
+module _ (old new : RingCore) (number woken more closed : ℕ) (counts : IsNumber number new) where
+  done : (turn : Turn) → Says turn old new → turn_answer turn ≡ DONE → HasDone (turn_told number turn woken more closed) old new
+  done (Did s d) says e = record { event = s; decision = d; number = number; counts = counts; did = says.did s d refl; decisions_are = says.decision s d refl; receives_none = says.leave s d refl; told = said_reported number d woken more closed }
   done Idle says e = absurd (omega (arith, e))
   done (Stopped cause) says e = absurd (omega (arith, e))
   done Spent says e = absurd (omega (arith, e))
@@ -90,7 +90,7 @@ module _ (old new : RingCore) (number woken more : ℕ) (counts : IsNumber numbe
   not_did Spent differs s' d' e = absurd (cc)
   not_did NoMemory differs s' d' e = absurd (cc)
 
-  nothing_told : (turn : Turn) → (turn_answer turn ≢ DONE) → said (turn_told number turn woken more) ≡ NOTHING
+  nothing_told : (turn : Turn) → (turn_answer turn ≢ DONE) → said (turn_told number turn woken more closed) ≡ NOTHING
   nothing_told (Did s d) differs = absurd (differs refl)
   nothing_told Idle differs = refl
   nothing_told (Stopped cause) differs = refl
@@ -155,8 +155,8 @@ module _ (old new : RingCore) (number woken more : ℕ) (counts : IsNumber numbe
   lacks_memory Spent e = absurd (omega (arith, e))
 
   pub has_turned : (turn : Turn) → Says turn old new → woken ≡ bits_below new.cores (λ p. (ring_flow new.links p).moved)
-      → more ≡ more_for (turn_answer turn) → HasTurned (turn_answer turn) (turn_told number turn woken more) old new
-  has_turned turn says bits further = record {
+      → more ≡ more_for (turn_answer turn) → AreLinked closed old → HasTurned (turn_answer turn) (turn_told number turn woken more closed) old new
+  has_turned turn says bits further linked = record {
     same = says.core;
     requests = says.requests;
     decided = says.decided;
@@ -167,6 +167,7 @@ module _ (old new : RingCore) (number woken more : ℕ) (counts : IsNumber numbe
     unnamed = says.still;
     named = says.moved;
     more = further;
+    closed = linked;
     full = λ e. says.full (is_idle turn e);
     dry = λ e. says.dry (is_idle turn e);
     stopped = stopped turn says;

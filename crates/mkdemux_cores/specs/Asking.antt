@@ -16,6 +16,10 @@ HasAsked op old new = new ≡ record old { pending = old.pending ++ op ∷ [] }
 abbrev pub IsTooLong : List Insn → Option RingCore → Type 0
 IsTooLong code core = (c : RingCore) × (core ≡ Some c) × (0 < c.number) × (4096 < length code)
 
+-- a core other than 0
+abbrev pub IsOther : Option RingCore → Type 0
+IsOther core = (c : RingCore) × (core ≡ Some c) × (0 < c.number)
+
 abbrev pub rights_number : Rights → ℕ
 rights_number R = 1
 rights_number M = 2

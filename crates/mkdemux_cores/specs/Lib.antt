@@ -9,3 +9,4 @@ pub mod Booting
 pub mod Listing
 pub mod Bursts
 pub mod Settling
+pub mod Naming

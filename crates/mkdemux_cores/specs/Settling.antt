@@ -2,6 +2,7 @@
 use Rattle.std.specs.Prelude.{◌≡◌, ◌≤◌, ◌+◌, ◌⊎◌, ℕ, List, [], ◌∷◌, Option, Some, map, length}
 use Rattle.filter_table.specs.Limits.{TableLimits}
 use Rattle.mkdemux_cores.specs.declared.handle.CoreHandle.{CoreHandle}
+use Rattle.core_links.specs.RingSlots.{machine_of}
 use Rattle.core_machine.specs.Machines.{RingCore, IsMachine, AreSameCores}
 use Rattle.core_machine.specs.Conclusions.{Conclude}
 use Rattle.core_machine.specs.declared.settling.Settled.{Settled}
@@ -14,25 +15,25 @@ use Rattle.mkdemux_cores.specs.Booting.{cores_of}
 abbrev pub AreOpen : List CoreHandle → List RingCore → Type 0
 AreOpen handles cores = cores_of handles ≡ map (λ c. Some c) cores
 
--- the core in this place of a machine of so many, by what it says itself
-abbrev pub IsOf : ℕ → ℕ → RingCore → Type 0
-IsOf place count c = (c.number ≡ place) × (c.cores ≡ count)
+-- the core in this place of the machine of this name and of so many cores, by what it says itself
+abbrev pub IsOf : ℕ → ℕ → ℕ → RingCore → Type 0
+IsOf name place count c = (c.number ≡ place) × (c.cores ≡ count) × (machine_of c.links ≡ name)
 
 -- and so on from this place
-abbrev pub AreNumbered : ℕ → ℕ → List RingCore → Type 0
-AreNumbered place count [] = Unit {0}
-AreNumbered place count (c ∷ cs) = IsOf place count c × AreNumbered (place + 1) count cs
+abbrev pub AreNumbered : ℕ → ℕ → ℕ → List RingCore → Type 0
+AreNumbered name place count [] = Unit {0}
+AreNumbered name place count (c ∷ cs) = IsOf name place count c × AreNumbered name (place + 1) count cs
 
--- What a caller owes: cores that are numbered as those of one machine are those of one machine. Nothing in a core tells whether another is of
--- its machine.
+-- What a caller owes: cores of one name that are numbered as those of one machine are those of one machine. No two machines that are open at a time
+-- have one name.
 abbrev pub AreOfOneMachine : List CoreHandle → Type 0
-AreOfOneMachine handles = (cs : List RingCore) → AreOpen handles cs → 1 ≤ length cs → AreNumbered 0 (length cs) cs → (limits : TableLimits) × (budget : ℕ) × (budgets : List ℕ) × IsMachine limits budget budgets cs
+AreOfOneMachine handles = (cs : List RingCore) (name : ℕ) → AreOpen handles cs → 1 ≤ length cs → AreNumbered name 0 (length cs) cs → (limits : TableLimits) × (budget : ℕ) × (budgets : List ℕ) × IsMachine limits budget budgets cs
 
--- a handle is closed, or a core has another number or is one of another count of cores
-abbrev pub HasFault : ℕ → ℕ → List CoreHandle → ℕ → Type 0
-HasFault place count handles answer =
+-- a handle is closed, or a core has another number, is one of another count of cores or of a machine of another name
+abbrev pub HasFault : ℕ → ℕ → ℕ → List CoreHandle → ℕ → Type 0
+HasFault name place count handles answer =
     ((answer ≡ CLOSED) × ((cs : List RingCore) → AreOpen handles cs → ⊥))
-    ⊎ ((answer ≡ NOT_MACHINE) × ((cs : List RingCore) → AreOpen handles cs → AreNumbered place count cs → ⊥))
+    ⊎ ((answer ≡ NOT_MACHINE) × ((cs : List RingCore) → AreOpen handles cs → AreNumbered name place count cs → ⊥))
 
 abbrev pub answer_of : Settled → ℕ
 answer_of AtRest = DONE

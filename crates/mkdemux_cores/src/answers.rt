@@ -41,3 +41,6 @@ pub const NOT_MACHINE: u32 = 12;
 
 /// The limits are 0 or too great, or a share is above its total. Nothing has changed.
 pub const BAD_LIMITS: u32 = 13;
+
+/// A core that would have to answer is closed. Nothing has changed, except that a turn may have moved lines.
+pub const PEER_CLOSED: u32 = 15;

@@ -1,17 +1,18 @@
 //! Requests. Each is answered by a turn of the same core, in the order in which they were asked.
 
-ghost use Rattle.std.specs.Prelude.{◌≡◌, ◌≢◌, ◌↔◌, ◌∷◌, [], ◌⊎◌, ◌≤◌, None, Some, MatchOption, IfErr, IfOk, length};
+ghost use Rattle.std.specs.Prelude.{◌≡◌, ◌≢◌, ◌↔◌, ◌∷◌, [], ◌⊎◌, ◌≤◌, ◌<◌, None, Some, MatchOption, IfErr, IfOk, IsTrue, length};
 ghost use Rattle.bpf_insn.specs.declared.insn.Insn.{Insn as GhostInsn};
 ghost use Rattle.endpoint_caps.specs.declared.Rights.{Rights as GhostRights};
 ghost use Rattle.filter_table.specs.declared.operation.Op.TheVariants.{Create, Mint, Revoke, DropCap, Install, Remove, Replace};
 ghost use Rattle.core_loop.specs.Cores.{AreShort};
 ghost use Rattle.core_machine.specs.Machines.{RingCore};
-ghost use Rattle.mkdemux_cores.specs.Asking.{HasAsked, IsTooLong, rights_number};
+ghost use Rattle.mkdemux_cores.specs.Asking.{HasAsked, IsOther, IsTooLong, rights_number};
 ghost use Rattle.mkdemux_cores.specs.Leading.{Leads};
 
-use crate::answers::{BAD_RIGHTS, CLOSED, DONE, NO_MEMORY, TOO_LONG};
+use crate::answers::{BAD_RIGHTS, CLOSED, DONE, NO_MEMORY, PEER_CLOSED, TOO_LONG};
 use crate::handle::CoreHandle;
 use bpf_insn::Insn;
+use core_loop::{Core, RingLinks};
 use endpoint_caps::Rights;
 use filter_table::{Op, Program};
 use std::alloc::{AllocError, Global};
@@ -19,7 +20,7 @@ use std::alloc::{AllocError, Global};
 /// The instructions that a program of a core other than 0 may have.
 const MOST_INSTRUCTIONS: usize = 4096;
 
-/// Asks for a capability of an endpoint with all rights, for a domain: `DONE`, `CLOSED` or `NO_MEMORY`.
+/// Asks for a capability of an endpoint with all rights, for a domain: `DONE`, `CLOSED`, `PEER_CLOSED` or `NO_MEMORY`.
 #[unsafe(no_mangle)]
 pub extern "C" fn mkdemux_ask_create(
     alloc: Global,
@@ -30,13 +31,14 @@ pub extern "C" fn mkdemux_ask_create(
     ensures closed { result ≡ CLOSED ↔ core.old.core ≡ None }
     ensures asked { result ≡ DONE → Leads (HasAsked (Create domain endpoint)) core.old.core core.new.core }
     ensures same { result ≢ DONE → core.new.core ≡ core.old.core }
-    ensures answers { (result ≡ DONE) ⊎ ((result ≡ CLOSED) ⊎ (result ≡ NO_MEMORY)) }
+    ensures peer_closed { result ≡ PEER_CLOSED → IsOther core.old.core }
+    ensures answers { (result ≡ DONE) ⊎ ((result ≡ CLOSED) ⊎ ((result ≡ PEER_CLOSED) ⊎ (result ≡ NO_MEMORY))) }
 {
     ask(alloc, core, Op::Create { domain, endpoint })
 }
 
 /// Asks for a capability of the same endpoint as another, for the domain `to`. Rights are 1 to receive, 2 to mint, 3 for both:
-/// `DONE`, `CLOSED`, `BAD_RIGHTS` or `NO_MEMORY`.
+/// `DONE`, `CLOSED`, `BAD_RIGHTS`, `PEER_CLOSED` or `NO_MEMORY`.
 #[unsafe(no_mangle)]
 pub extern "C" fn mkdemux_ask_mint(
     alloc: Global,
@@ -50,7 +52,8 @@ pub extern "C" fn mkdemux_ask_mint(
     ensures asked { result ≡ DONE → (r : GhostRights) × (rights_number r ≡ rights) × Leads (HasAsked (Mint domain cap to r)) core.old.core core.new.core }
     ensures rights { result ≡ BAD_RIGHTS → (r : GhostRights) → rights_number r ≢ rights }
     ensures same { result ≢ DONE → core.new.core ≡ core.old.core }
-    ensures answers { (result ≡ DONE) ⊎ ((result ≡ CLOSED) ⊎ ((result ≡ BAD_RIGHTS) ⊎ (result ≡ NO_MEMORY))) }
+    ensures peer_closed { result ≡ PEER_CLOSED → IsOther core.old.core }
+    ensures answers { (result ≡ DONE) ⊎ ((result ≡ CLOSED) ⊎ ((result ≡ BAD_RIGHTS) ⊎ ((result ≡ PEER_CLOSED) ⊎ (result ≡ NO_MEMORY)))) }
 {
     match rights_of(rights) {
         Some(rights) => ask(
@@ -68,7 +71,7 @@ pub extern "C" fn mkdemux_ask_mint(
     }
 }
 
-/// Asks that all that was minted from a capability goes: `DONE`, `CLOSED` or `NO_MEMORY`.
+/// Asks that all that was minted from a capability goes: `DONE`, `CLOSED`, `PEER_CLOSED` or `NO_MEMORY`.
 #[unsafe(no_mangle)]
 pub extern "C" fn mkdemux_ask_revoke(
     alloc: Global,
@@ -79,12 +82,13 @@ pub extern "C" fn mkdemux_ask_revoke(
     ensures closed { result ≡ CLOSED ↔ core.old.core ≡ None }
     ensures asked { result ≡ DONE → Leads (HasAsked (Revoke domain cap)) core.old.core core.new.core }
     ensures same { result ≢ DONE → core.new.core ≡ core.old.core }
-    ensures answers { (result ≡ DONE) ⊎ ((result ≡ CLOSED) ⊎ (result ≡ NO_MEMORY)) }
+    ensures peer_closed { result ≡ PEER_CLOSED → IsOther core.old.core }
+    ensures answers { (result ≡ DONE) ⊎ ((result ≡ CLOSED) ⊎ ((result ≡ PEER_CLOSED) ⊎ (result ≡ NO_MEMORY))) }
 {
     ask(alloc, core, Op::Revoke { domain, cap })
 }
 
-/// Asks that a capability goes, with all that was minted from it: `DONE`, `CLOSED` or `NO_MEMORY`.
+/// Asks that a capability goes, with all that was minted from it: `DONE`, `CLOSED`, `PEER_CLOSED` or `NO_MEMORY`.
 #[unsafe(no_mangle)]
 pub extern "C" fn mkdemux_ask_drop(
     alloc: Global,
@@ -95,13 +99,14 @@ pub extern "C" fn mkdemux_ask_drop(
     ensures closed { result ≡ CLOSED ↔ core.old.core ≡ None }
     ensures asked { result ≡ DONE → Leads (HasAsked (DropCap domain cap)) core.old.core core.new.core }
     ensures same { result ≢ DONE → core.new.core ≡ core.old.core }
-    ensures answers { (result ≡ DONE) ⊎ ((result ≡ CLOSED) ⊎ (result ≡ NO_MEMORY)) }
+    ensures peer_closed { result ≡ PEER_CLOSED → IsOther core.old.core }
+    ensures answers { (result ≡ DONE) ⊎ ((result ≡ CLOSED) ⊎ ((result ≡ PEER_CLOSED) ⊎ (result ≡ NO_MEMORY))) }
 {
     ask(alloc, core, Op::DropCap { domain, cap })
 }
 
 /// Asks for a filter for the endpoint of a capability. The program is copied, and may be one that the verifier refuses: `DONE`,
-/// `CLOSED`, `TOO_LONG` or `NO_MEMORY`.
+/// `CLOSED`, `TOO_LONG`, `PEER_CLOSED` or `NO_MEMORY`.
 #[unsafe(no_mangle)]
 pub extern "C" fn mkdemux_ask_install(
     alloc: Global,
@@ -114,7 +119,8 @@ pub extern "C" fn mkdemux_ask_install(
     ensures asked { result ≡ DONE → Leads (HasAsked (Install domain cap code.now)) core.old.core core.new.core }
     ensures too_long { result ≡ TOO_LONG ↔ IsTooLong code.now core.old.core }
     ensures same { result ≢ DONE → core.new.core ≡ core.old.core }
-    ensures answers { (result ≡ DONE) ⊎ ((result ≡ CLOSED) ⊎ ((result ≡ TOO_LONG) ⊎ (result ≡ NO_MEMORY))) }
+    ensures peer_closed { result ≡ PEER_CLOSED → IsOther core.old.core }
+    ensures answers { (result ≡ DONE) ⊎ ((result ≡ CLOSED) ⊎ ((result ≡ TOO_LONG) ⊎ ((result ≡ PEER_CLOSED) ⊎ (result ≡ NO_MEMORY)))) }
 {
     match program_for(alloc, core, code) {
         Ok(program) => ask(
@@ -130,7 +136,7 @@ pub extern "C" fn mkdemux_ask_install(
     }
 }
 
-/// Asks that a filter goes: `DONE`, `CLOSED` or `NO_MEMORY`.
+/// Asks that a filter goes: `DONE`, `CLOSED`, `PEER_CLOSED` or `NO_MEMORY`.
 #[unsafe(no_mangle)]
 pub extern "C" fn mkdemux_ask_remove(
     alloc: Global,
@@ -141,12 +147,13 @@ pub extern "C" fn mkdemux_ask_remove(
     ensures closed { result ≡ CLOSED ↔ core.old.core ≡ None }
     ensures asked { result ≡ DONE → Leads (HasAsked (Remove domain filter)) core.old.core core.new.core }
     ensures same { result ≢ DONE → core.new.core ≡ core.old.core }
-    ensures answers { (result ≡ DONE) ⊎ ((result ≡ CLOSED) ⊎ (result ≡ NO_MEMORY)) }
+    ensures peer_closed { result ≡ PEER_CLOSED → IsOther core.old.core }
+    ensures answers { (result ≡ DONE) ⊎ ((result ≡ CLOSED) ⊎ ((result ≡ PEER_CLOSED) ⊎ (result ≡ NO_MEMORY))) }
 {
     ask(alloc, core, Op::Remove { domain, filter })
 }
 
-/// Asks that a filter gets another program, and keeps all else. The program is copied: `DONE`, `CLOSED`, `TOO_LONG` or `NO_MEMORY`.
+/// Asks that a filter gets another program, and keeps all else. The program is copied: `DONE`, `CLOSED`, `TOO_LONG`, `PEER_CLOSED` or `NO_MEMORY`.
 #[unsafe(no_mangle)]
 pub extern "C" fn mkdemux_ask_replace(
     alloc: Global,
@@ -159,7 +166,8 @@ pub extern "C" fn mkdemux_ask_replace(
     ensures asked { result ≡ DONE → Leads (HasAsked (Replace domain filter code.now)) core.old.core core.new.core }
     ensures too_long { result ≡ TOO_LONG ↔ IsTooLong code.now core.old.core }
     ensures same { result ≢ DONE → core.new.core ≡ core.old.core }
-    ensures answers { (result ≡ DONE) ⊎ ((result ≡ CLOSED) ⊎ ((result ≡ TOO_LONG) ⊎ (result ≡ NO_MEMORY))) }
+    ensures peer_closed { result ≡ PEER_CLOSED → IsOther core.old.core }
+    ensures answers { (result ≡ DONE) ⊎ ((result ≡ CLOSED) ⊎ ((result ≡ TOO_LONG) ⊎ ((result ≡ PEER_CLOSED) ⊎ (result ≡ NO_MEMORY)))) }
 {
     match program_for(alloc, core, code) {
         Ok(program) => ask(
@@ -175,17 +183,29 @@ pub extern "C" fn mkdemux_ask_replace(
     }
 }
 
+/// Whether it is another core, and knows that core 0 is closed.
+fn has_lost_core_0(core: &Core<RingLinks>) -> bool
+    ensures { IsTrue result → 0 < core.now.number }
+{
+    core.number() > 0 && core.closed() != 0
+}
+
 /// Puts a request after those of the core.
 fn ask(alloc: Global, core: &mut CoreHandle, op: Op) -> u32
     requires short { (c : RingCore) → core.old.core ≡ Some c → AreShort c.number (op ∷ []) }
     ensures closed { result ≡ CLOSED ↔ core.old.core ≡ None }
     ensures asked { result ≡ DONE → Leads (HasAsked op) core.old.core core.new.core }
     ensures same { result ≢ DONE → core.new.core ≡ core.old.core }
-    ensures answers { (result ≡ DONE) ⊎ ((result ≡ CLOSED) ⊎ (result ≡ NO_MEMORY)) }
+    ensures peer_closed { result ≡ PEER_CLOSED → IsOther core.old.core }
+    ensures answers { (result ≡ DONE) ⊎ ((result ≡ CLOSED) ⊎ ((result ≡ PEER_CLOSED) ⊎ (result ≡ NO_MEMORY))) }
 {
     let Some(mut open) = core.take(alloc) else {
         return CLOSED;
     };
+    if has_lost_core_0(&open) {
+        core.put(open);
+        return PEER_CLOSED;
+    }
     let asked = open.ask(op);
     core.put(open);
     match asked {

@@ -15,6 +15,7 @@ mod handle;
 mod listing;
 mod looking;
 mod loose;
+mod naming;
 mod receiving;
 mod settling;
 mod turned;

@@ -30,6 +30,9 @@ pub struct Turned {
     pub woken: u64,
     /// 1 where a further turn may do something without anything from outside, else 0.
     pub more: u32,
+    /// The cores that this core knew to be closed as the turn began: a bit for each, the least for core 0. Core 0 knows of each core,
+    /// another one only of core 0.
+    pub closed: u64,
 }
 
 /// No id: nothing ever has it.
@@ -50,6 +53,7 @@ pub const NOTHING: Turned = Turned {
     request: 0,
     woken: 0,
     more: 0,
+    closed: 0,
 };
 
 /// A step, with the decision on the request of this core that has this number, if the step has one.

@@ -3,3 +3,4 @@ pub mod Starting
 pub mod Counting
 pub mod Tallying
 pub mod Waiting
+pub mod Awaiting

@@ -9,6 +9,7 @@ ghost use Rattle.filter_table.specs.declared.decision.Decision.TheVariants.{Comm
 ghost use Rattle.two_phase.specs.declared.step.Say.TheVariants.{Abort};
 ghost use Rattle.monitor_2pc.specs.Places.{after_commit};
 ghost use Rattle.two_phase.specs.Coordinators.{CoordinatorState, CoordinatorPlace, Requests, Idle, Acking, IsVoting, coordinator_place, no_requests, StagedByPhase, CanStart, Starts, StartsFor, CanSubmit, with_waiting, AwaitsVote, Hears, with_decided, AwaitsAck, HearsAck, reply_of, veto_of, veto_by, step};
+ghost use Rattle.monitor_2pc.specs.Awaiting.{Awaits};
 ghost use Rattle.monitor_2pc.specs.Starting.{CannotStart, CannotStartFor, WasStaged, asked_by};
 
 use crate::tally::{AckList, Tally, VoteList};
@@ -98,6 +99,20 @@ impl Coordinator {
         ensures { IsTrue result ↔ IsVoting self.now.phase }
     {
         self.wait == Wait::Votes
+    }
+
+    /// Whether it waits for this core's vote or acknowledgement.
+    pub fn awaits(&self, from: u16) -> bool
+        ensures { IsTrue result ↔ Awaits self.now from }
+    {
+        let Some(entry) = usize::from(from).checked_sub(1) else {
+            return false;
+        };
+        match self.wait {
+            Wait::Nothing => false,
+            Wait::Votes => self.votes.is_missing(entry),
+            Wait::Acks => self.acks.is_missing(entry),
+        }
     }
 
     /// The last number.

@@ -1,7 +1,7 @@
 //! Votes and acknowledgements, core c's at entry c - 1. Those that are missing are counted, so that only the last one looks at
 //! the others.
 
-ghost use Rattle.std.specs.Prelude.{◌≡◌, ◌≢◌, ◌<◌, ◌≤◌, ℕ, true, false, None, Some, IfOk, OnSome, IfSome, IfNone, length, slice_get, slice_set};
+ghost use Rattle.std.specs.Prelude.{◌≡◌, ◌≢◌, ◌<◌, ◌≤◌, ◌↔◌, IsTrue, ℕ, true, false, None, Some, IfOk, OnSome, IfSome, IfNone, length, slice_get, slice_set};
 ghost use Rattle.std.specs.List.{list_all};
 ghost use Rattle.std.proofs.Common.{replicate};
 ghost use Rattle.monitor_2pc.specs.Tallying.{Tallied, SaysOn};
@@ -90,6 +90,16 @@ impl VoteList {
             return None;
         }
         verdict_of(&self.votes, entry, vote)
+    }
+
+    /// Whether the vote at this entry is missing.
+    pub(crate) fn is_missing(&self, entry: usize) -> bool
+        ensures { IsTrue result ↔ (slice_get self.now entry ≡ Some None) }
+    {
+        match self.votes.get(entry) {
+            Some(vote) => vote.is_none(),
+            None => false,
+        }
     }
 
     /// Takes all votes out.
@@ -192,6 +202,16 @@ impl AckList {
         ensures { slice_get self.now entry ≡ Some false → result ≡ list_all (λ ack. ack) (slice_set self.now entry true) }
     {
         self.missing == 1
+    }
+
+    /// Whether this entry is not marked.
+    pub(crate) fn is_missing(&self, entry: usize) -> bool
+        ensures { IsTrue result ↔ (slice_get self.now entry ≡ Some false) }
+    {
+        match self.acks.get(entry) {
+            Some(marked) => !*marked,
+            None => false,
+        }
     }
 
     /// Takes all marks off.

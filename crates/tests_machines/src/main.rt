@@ -4,6 +4,8 @@
 #[cfg(test)]
 mod again;
 #[cfg(test)]
+mod ending;
+#[cfg(test)]
 mod facts;
 #[cfg(test)]
 mod joined;

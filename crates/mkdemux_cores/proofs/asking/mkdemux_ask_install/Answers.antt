@@ -1,4 +1,4 @@
-use Rattle.std.proofs.Common.{List, Option, subst}
+use Rattle.std.proofs.Common.{List, Option, subst, sym, ◌∙◌}
 use Rattle.bpf_insn.specs.declared.insn.Insn.{Insn}
 use Rattle.filter_table.specs.declared.operation.Op.TheVariants.{Install}
 use Rattle.core_machine.specs.Machines.{RingCore}
@@ -11,3 +11,6 @@ returns-in-Ok-clause-asked c = λ done.
     let after = c.ask.new.core.core in
     subst (λ (before : Option RingCore). Leads (HasAsked (Install c.args.domain c.args.cap c.args.code.now)) before after) c.in-Ok.ensures.same
     (subst (λ (program : List Insn). Leads (HasAsked (Install c.args.domain c.args.cap program)) c.program_for.new.core.core after) c.in-Ok.ensures.copy (c.ask.ensures.asked done))
+
+pub returns-in-Ok-clause-peer_closed : goal.returns-in-Ok-clause-peer_closed
+returns-in-Ok-clause-peer_closed c = λ is. let other = c.ask.ensures.peer_closed is in (other.0, sym c.in-Ok.ensures.same ∙ other.1, other.2)

@@ -2,6 +2,7 @@ use Rattle.std.proofs.Common.{◌≡◌, ℕ, refl, sym, ap, ◌∙◌, subst}
 use Rattle.core_machine.specs.Machines.{RingCore}
 use Rattle.mkdemux_cores.specs.declared.turned.Turned.{Turned}
 use Rattle.mkdemux_cores.specs.Turns.{HasTurned}
+use Rattle.mkdemux_cores.proofs.Linked.{linked}
 use Rattle.mkdemux_cores.proofs.Telling.{Says, more_for, turn_answer, turn_report, has_turned}
 use Rattle.mkdemux_cores.proofs.turning.turn_core.Goals.{in-Did, in-Idle, in-Stopped, in-Spent, in-NoMemory}
 use Rattle.mkdemux_cores.proofs.turning.turn_core.Goals as goal
@@ -45,7 +46,7 @@ returns-clause-turned c =
       | in-Spent w ↦ w.turned-is ∙ sym (ap (turn_report number) w.in-Spent.is)
       | in-NoMemory w ↦ w.turned-is ∙ sym (ap (turn_report number) w.in-NoMemory.is)
     ] in
-    let woken = c.woken-turned.result in let more = c.more_after-turned.result in
+    let woken = c.woken-turned.result in let more = c.more_after-turned.result in let closed = c.closed-closed.result in
     let further : more ≡ more_for (turn_answer turn) = subst (λ (n : ℕ). more ≡ more_for n) answer c.more_after-turned.ensures in
-    subst (λ (n : ℕ). HasTurned n (record c.match-turn.turned { woken = woken; more = more }) old new) (sym answer) (subst (λ (t : Turned). HasTurned (turn_answer turn) (record t { woken = woken; more = more }) old new) (sym report)
-    (has_turned old new number woken more c.decided-number.ensures turn says c.woken-turned.ensures further))
+    subst (λ (n : ℕ). HasTurned n (record c.match-turn.turned { woken = woken; more = more; closed = closed }) old new) (sym answer) (subst (λ (t : Turned). HasTurned (turn_answer turn) (record t { woken = woken; more = more; closed = closed }) old new) (sym report)
+    (has_turned old new number woken more closed c.decided-number.ensures turn says c.woken-turned.ensures further (linked old closed c.closed-closed.ensures.below c.closed-closed.ensures.joined)))

@@ -37,7 +37,7 @@ there c = stands_beside c.args.other.now.slots.items c.from-back.result c.args.s
     (sym c.index_mut-2.ensures.value ∙ c.in-Some-Some.is-1) c.beside.ensures.links.1 c.beside.ensures.there
 
 pub returns-clause-links : goal.returns-clause-links
-returns-clause-links c = (record { own = refl; count = refl; each = (here c).each }, record { own = refl; count = refl; each = (there c).each })
+returns-clause-links c = (record { own = refl; machine = refl; count = refl; each = (here c).each }, record { own = refl; machine = refl; count = refl; each = (there c).each })
 
 pub returns-clause-here : goal.returns-clause-here
 returns-clause-here c = (here c).views

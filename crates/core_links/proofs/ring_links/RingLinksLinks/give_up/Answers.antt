@@ -16,7 +16,7 @@ invariant_of-self-in-Some c =
 pub returns-in-Some-clause-given : goal.returns-in-Some-clause-given
 returns-in-Some-clause-given c =
     let h = at_slot c.args.self.now.slots.items c.from-place.result c.args.peer _ c.in-Some.link c.give_up.new.self GivenUp (search rules) (sym c.index_mut.ensures.value ∙ c.in-Some.is) (search rules) c.give_up.ensures.link c.give_up.ensures.given in
-    (record { own = refl; count = refl; each = h.each }, h.here, h.others)
+    (record { own = refl; machine = refl; count = refl; each = h.each }, h.here, h.others)
 
 pub returns-in-Some-clause-lines : goal.returns-in-Some-clause-lines
 returns-in-Some-clause-lines c = flows_same c.args.self.now.slots.items c.from-place.result _ c.in-Some.link c.give_up.new.self (sym c.index_mut.ensures.value ∙ c.in-Some.is) (search rules) c.give_up.ensures.lines

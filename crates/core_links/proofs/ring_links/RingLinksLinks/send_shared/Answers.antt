@@ -17,7 +17,7 @@ invariant_of-self-in-Some c =
 pub returns-in-Some-clause-sent : goal.returns-in-Some-clause-sent
 returns-in-Some-clause-sent c =
     let h = at_slot c.args.self.now.slots.items c.from-place.result c.args.peer _ c.in-Some.link c.send_shared.new.self (λ v w. HandedBytes v w c.args.message c.send_shared.result) (search rules) (sym c.index_mut.ensures.value ∙ c.in-Some.is) (search rules) c.send_shared.ensures.link c.send_shared.ensures.sent in
-    (record { own = refl; count = refl; each = h.each }, h.here, h.others)
+    (record { own = refl; machine = refl; count = refl; each = h.each }, h.here, h.others)
 
 pub returns-in-Some-clause-lines : goal.returns-in-Some-clause-lines
 returns-in-Some-clause-lines c = flows_same c.args.self.now.slots.items c.from-place.result _ c.in-Some.link c.send_shared.new.self (sym c.index_mut.ensures.value ∙ c.in-Some.is) (search rules) c.send_shared.ensures.lines

@@ -17,7 +17,7 @@ invariant_of-self-in-Some c =
 pub returns-in-Some-clause-pulled : goal.returns-in-Some-clause-pulled
 returns-in-Some-clause-pulled c =
     let h = at_slot c.args.self.now.slots.items c.from-place.result c.args.peer _ c.in-Some.link c.shows-shows.new.self (λ v w. Pulled v w c.shows-shows.result) (search rules) (sym c.index_mut.ensures.value ∙ c.in-Some.is) (search rules) c.shows-shows.ensures.link c.shows-shows.ensures.pulled in
-    (record { own = refl; count = refl; each = h.each }, h.here, h.others)
+    (record { own = refl; machine = refl; count = refl; each = h.each }, h.here, h.others)
 
 pub returns-in-Some-clause-lines : goal.returns-in-Some-clause-lines
 returns-in-Some-clause-lines c =
