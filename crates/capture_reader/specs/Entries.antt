@@ -1,6 +1,6 @@
 -- The entries of a capture, by its format: of a savefile its header and a packet for each record (pcap-savefile(5) of libpcap), of
 -- pcapng what its blocks say (draft-ietf-opsawg-pcapng).
-use Rattle.std.specs.Prelude.{ℕ, List, [], ◌∷◌, ◌++◌, map, drop, Option, Some, None}
+use Rattle.std.specs.Prelude.{ℕ, ◌%◌, List, [], ◌∷◌, ◌++◌, map, drop, Option, Some, None}
 use Rattle.pcap_reader.specs.declared.capture.Header.{Header}
 use Rattle.pcap_reader.specs.declared.capture.CapturedPacket.{CapturedPacket}
 use Rattle.pcap_reader.specs.Savefile.{number}
@@ -20,12 +20,16 @@ use Rattle.capture_reader.specs.declared.entry.Entry.TheVariants.{Savefile, Sect
 abbrev pub EntryBytes : Type 0
 EntryBytes = Entry × List ℕ
 
+-- the link type of a savefile: the lower 16 bits of its network. The others tell of a frame check sequence (pcap-savefile(5))
+abbrev pub savefile_link : Header → ℕ
+savefile_link h = h.network % 65536
+
 -- what a savefile with this header says of the packet of a record
 abbrev pub record_info : Header → List ℕ → PacketInfo
 record_info h bytes = record {
   section = 0;
   interface = 0;
-  link = h.network;
+  link = savefile_link h;
   time = Seconds (number h.big 4 bytes) (number h.big 4 (drop 4 bytes)) h.nano;
   original = number h.big 4 (drop 12 bytes);
 }

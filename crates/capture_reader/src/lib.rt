@@ -21,4 +21,5 @@ pub use entry::{Entry, Found, PacketInfo, PacketTime, SeenEntry};
 pub use fault::ReadFault;
 pub use feed::CaptureFeed;
 pub use laws::{captured_bytes_are_few, captures_have_one_reading, savefiles_are_read_as_such};
+pub use records::savefile_link;
 pub use sharing::share_packets;

@@ -2,7 +2,7 @@
 
 ghost use Rattle.std.specs.Prelude.{◌≡◌, ◌≤◌, ◌<◌, ◌^◌, length};
 ghost use Rattle.capture_reader.specs.Recording.{IsWanted};
-ghost use Rattle.capture_reader.specs.Entries.{record_info};
+ghost use Rattle.capture_reader.specs.Entries.{record_info, savefile_link};
 
 use crate::entry::{Entry, Found, PacketInfo, PacketTime, SeenEntry};
 use crate::header::header_of;
@@ -215,6 +215,14 @@ fn wanted(big: bool, part: &[u8]) -> usize
     (RECORD_HEADER + word_at(big, &part[8..]) as usize).saturating_sub(part.len())
 }
 
+/// The link type of a savefile: the lower 16 bits of its network. The others tell of a frame check sequence (pcap-savefile(5)).
+#[inline(always)]
+pub fn savefile_link(header: Header) -> u32
+    ensures { result ≡ savefile_link header }
+{
+    header.network % 65_536
+}
+
 /// What the header of a record says of its packet.
 #[inline(always)]
 fn info_of(header: Header, bytes: &[u8]) -> PacketInfo
@@ -224,7 +232,7 @@ fn info_of(header: Header, bytes: &[u8]) -> PacketInfo
     PacketInfo {
         section: 0,
         interface: 0,
-        link: header.network,
+        link: savefile_link(header),
         time: PacketTime::Seconds {
             seconds: word_at(header.big, bytes),
             fraction: word_at(header.big, &bytes[4..]),

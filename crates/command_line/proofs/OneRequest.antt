@@ -4,10 +4,12 @@ use Rattle.std.specs.Prelude.{codes, unwrap_or}
 use Rattle.std.specs.List.{Contains}
 use Rattle.clap.specs.Words.{Row, Text, first_of, one_of}
 use Rattle.command_line.specs.declared.request.Request.{Request}
-use Rattle.command_line.specs.declared.request.Request.TheVariants.{Match, View as Viewed, Explain, Keep, Check, Graph, Dump, Sim, Run, Draw}
+use Rattle.command_line.specs.declared.request.Request.TheVariants.{Match, View as Viewed, Explain, Keep, Check, Graph, Dump, Sim, Run, Draw, Compile}
+use Rattle.command_line.specs.declared.request.CheckInput.{CheckInput}
+use Rattle.command_line.specs.declared.request.CheckInput.TheVariants.{Assembler as AsmText, Insns, Decimal as DecimalText}
 use Rattle.command_line.specs.declared.request.MatchView.{MatchView}
 use Rattle.command_line.specs.declared.request.MatchView.TheVariants.{Numbers, Count, Quiet}
-use Rattle.command_line.specs.Requests.{Asks, IsExplain, IsFlag, IsKeep, IsMatch, IsView, IsViewed, command_names}
+use Rattle.command_line.specs.Requests.{Asks, IsCheckInput, IsExplain, IsFlag, IsKeep, IsMatch, IsView, IsViewed, command_names}
 
 abbrev pub truth : Bool → Text
 truth true = codes "true"
@@ -70,14 +72,15 @@ only_match name rows (Some (Match code given_pcap given_stream)) is h text pcap 
     (code, ap₂ (λ p s. Some (Match code p s)) (flag_is (codes "pcap") rows given_pcap pcap h.3 is_pcap) (flag_is (codes "stream") rows given_stream stream h.4 is_stream), h.1 ∙ is_code)
 only_match name rows (Some (Explain code)) is h text pcap stream is_code is_explain is_pcap is_stream none =
     not_given (codes "explain") rows true false h.2 is_explain (λ same. cc)
-only_match name rows (Some (Check asm)) is h text pcap stream is_code is_explain is_pcap is_stream none = apart name (codes "check") (codes "match") h.0 is (λ (same : 610 ≡ 651). absurd (omega arith))
+only_match name rows (Some (Check input asm)) is h text pcap stream is_code is_explain is_pcap is_stream none = apart name (codes "check") (codes "match") h.0 is (λ (same : 610 ≡ 651). absurd (omega arith))
 only_match name rows (Some (Viewed code given view)) is h text pcap stream is_code is_explain is_pcap is_stream none = other_view rows (Some view) None h.4 none (λ same. cc)
-only_match name rows (Some Graph) is h text pcap stream is_code is_explain is_pcap is_stream none = apart name (codes "check") (codes "match") h.0 is (λ (same : 610 ≡ 651). absurd (omega arith))
-only_match name rows (Some Dump) is h text pcap stream is_code is_explain is_pcap is_stream none = apart name (codes "dump") (codes "match") h is (λ (same : 661 ≡ 651). absurd (omega arith))
+only_match name rows (Some (Graph input)) is h text pcap stream is_code is_explain is_pcap is_stream none = apart name (codes "check") (codes "match") h.0 is (λ (same : 610 ≡ 651). absurd (omega arith))
+only_match name rows (Some (Dump s t)) is h text pcap stream is_code is_explain is_pcap is_stream none = apart name (codes "dump") (codes "match") h.0 is (λ (same : 661 ≡ 651). absurd (omega arith))
 only_match name rows (Some (Sim files)) is h text pcap stream is_code is_explain is_pcap is_stream none = apart name (codes "sim") (codes "match") h.0 is (λ (same : 652 ≡ 651). absurd (omega arith))
 only_match name rows (Some (Keep kept inverted)) is h text pcap stream is_code is_explain is_pcap is_stream none = apart name (codes "keep") (codes "match") h.0 is (λ (same : 612 ≡ 651). absurd (omega arith))
 only_match name rows (Some (Run files)) is h text pcap stream is_code is_explain is_pcap is_stream none = apart name (codes "run") (codes "match") h.0 is (λ (same : 678 ≡ 651). absurd (omega arith))
 only_match name rows (Some (Draw words)) is h text pcap stream is_code is_explain is_pcap is_stream none = apart name (codes "draw") (codes "match") h.0 is (λ (same : 619 ≡ 651). absurd (omega arith))
+only_match name rows (Some (Compile words listing)) is h text pcap stream is_code is_explain is_pcap is_stream none = apart name (codes "compile") (codes "match") h.0 is (λ (same : 648 ≡ 651). absurd (omega arith))
 only_match name rows None is h text pcap stream is_code is_explain is_pcap is_stream none = absurd (subst (λ t. Contains command_names t → ⊥) is h (0, omega arith, refl))
 
 pub only_view : (name : Text) (rows : List Row) (r : Option Request) → name ≡ codes "match" → Asks name rows r
@@ -88,13 +91,14 @@ only_view name rows (Some (Viewed code given_pcap given_view)) is h text pcap vi
 only_view name rows (Some (Match code given_pcap given_stream)) is h text pcap view is_code is_explain is_pcap is_view = other_view rows None (Some view) h.5 is_view (λ same. cc)
 only_view name rows (Some (Explain code)) is h text pcap view is_code is_explain is_pcap is_view =
     not_given (codes "explain") rows true false h.2 is_explain (λ same. cc)
-only_view name rows (Some (Check asm)) is h text pcap view is_code is_explain is_pcap is_view = apart name (codes "check") (codes "match") h.0 is (λ (same : 610 ≡ 651). absurd (omega arith))
-only_view name rows (Some Graph) is h text pcap view is_code is_explain is_pcap is_view = apart name (codes "check") (codes "match") h.0 is (λ (same : 610 ≡ 651). absurd (omega arith))
-only_view name rows (Some Dump) is h text pcap view is_code is_explain is_pcap is_view = apart name (codes "dump") (codes "match") h is (λ (same : 661 ≡ 651). absurd (omega arith))
+only_view name rows (Some (Check input asm)) is h text pcap view is_code is_explain is_pcap is_view = apart name (codes "check") (codes "match") h.0 is (λ (same : 610 ≡ 651). absurd (omega arith))
+only_view name rows (Some (Graph input)) is h text pcap view is_code is_explain is_pcap is_view = apart name (codes "check") (codes "match") h.0 is (λ (same : 610 ≡ 651). absurd (omega arith))
+only_view name rows (Some (Dump s t)) is h text pcap view is_code is_explain is_pcap is_view = apart name (codes "dump") (codes "match") h.0 is (λ (same : 661 ≡ 651). absurd (omega arith))
 only_view name rows (Some (Sim files)) is h text pcap view is_code is_explain is_pcap is_view = apart name (codes "sim") (codes "match") h.0 is (λ (same : 652 ≡ 651). absurd (omega arith))
 only_view name rows (Some (Keep kept inverted)) is h text pcap view is_code is_explain is_pcap is_view = apart name (codes "keep") (codes "match") h.0 is (λ (same : 612 ≡ 651). absurd (omega arith))
 only_view name rows (Some (Run files)) is h text pcap view is_code is_explain is_pcap is_view = apart name (codes "run") (codes "match") h.0 is (λ (same : 678 ≡ 651). absurd (omega arith))
 only_view name rows (Some (Draw words)) is h text pcap view is_code is_explain is_pcap is_view = apart name (codes "draw") (codes "match") h.0 is (λ (same : 619 ≡ 651). absurd (omega arith))
+only_view name rows (Some (Compile words listing)) is h text pcap view is_code is_explain is_pcap is_view = apart name (codes "compile") (codes "match") h.0 is (λ (same : 648 ≡ 651). absurd (omega arith))
 only_view name rows None is h text pcap view is_code is_explain is_pcap is_view = absurd (subst (λ t. Contains command_names t → ⊥) is h (0, omega arith, refl))
 
 pub only_explain : (name : Text) (rows : List Row) (r : Option Request) → name ≡ codes "match" → Asks name rows r
@@ -104,55 +108,69 @@ only_explain name rows (Some (Match code given_pcap given_stream)) is h text is_
     not_given (codes "explain") rows false true h.2 is_explain (λ same. cc)
 only_explain name rows (Some (Viewed code given view)) is h text is_code is_explain =
     not_given (codes "explain") rows false true h.2 is_explain (λ same. cc)
-only_explain name rows (Some (Check asm)) is h text is_code is_explain = apart name (codes "check") (codes "match") h.0 is (λ (same : 610 ≡ 651). absurd (omega arith))
-only_explain name rows (Some Graph) is h text is_code is_explain = apart name (codes "check") (codes "match") h.0 is (λ (same : 610 ≡ 651). absurd (omega arith))
-only_explain name rows (Some Dump) is h text is_code is_explain = apart name (codes "dump") (codes "match") h is (λ (same : 661 ≡ 651). absurd (omega arith))
+only_explain name rows (Some (Check input asm)) is h text is_code is_explain = apart name (codes "check") (codes "match") h.0 is (λ (same : 610 ≡ 651). absurd (omega arith))
+only_explain name rows (Some (Graph input)) is h text is_code is_explain = apart name (codes "check") (codes "match") h.0 is (λ (same : 610 ≡ 651). absurd (omega arith))
+only_explain name rows (Some (Dump s t)) is h text is_code is_explain = apart name (codes "dump") (codes "match") h.0 is (λ (same : 661 ≡ 651). absurd (omega arith))
 only_explain name rows (Some (Sim files)) is h text is_code is_explain = apart name (codes "sim") (codes "match") h.0 is (λ (same : 652 ≡ 651). absurd (omega arith))
 only_explain name rows (Some (Keep kept inverted)) is h text is_code is_explain = apart name (codes "keep") (codes "match") h.0 is (λ (same : 612 ≡ 651). absurd (omega arith))
 only_explain name rows (Some (Run files)) is h text is_code is_explain = apart name (codes "run") (codes "match") h.0 is (λ (same : 678 ≡ 651). absurd (omega arith))
 only_explain name rows (Some (Draw words)) is h text is_code is_explain = apart name (codes "draw") (codes "match") h.0 is (λ (same : 619 ≡ 651). absurd (omega arith))
+only_explain name rows (Some (Compile words listing)) is h text is_code is_explain = apart name (codes "compile") (codes "match") h.0 is (λ (same : 648 ≡ 651). absurd (omega arith))
 only_explain name rows None is h text is_code is_explain = absurd (subst (λ t. Contains command_names t → ⊥) is h (0, omega arith, refl))
 
+-- the rows of the flags that say what `check` reads, where none is given
+abbrev pub HasAssembler : List Row → Type 0
+HasAssembler rows = (one_of (codes "insns") rows ≡ Some (truth false)) × (one_of (codes "ddd") rows ≡ Some (truth false))
+
+reads_assembler : (rows : List Row) (input : CheckInput) → IsCheckInput rows input → HasAssembler rows → input ≡ AsmText
+reads_assembler rows AsmText is has = refl
+reads_assembler rows Insns is has = not_given (codes "insns") rows true false is has.0 (λ same. cc)
+reads_assembler rows DecimalText is has = not_given (codes "ddd") rows true false is.1 has.1 (λ same. cc)
+
 pub only_check : (name : Text) (rows : List Row) (r : Option Request) → name ≡ codes "check" → Asks name rows r
-    → (asm : Bool) → one_of (codes "graph") rows ≡ Some (truth false) → one_of (codes "asm") rows ≡ Some (truth asm) → r ≡ Some (Check asm)
-only_check name rows (Some (Check given)) is h asm is_graph is_asm = ap (λ a. Some (Check a)) (flag_is (codes "asm") rows given asm h.2 is_asm)
-only_check name rows (Some Graph) is h asm is_graph is_asm = not_given (codes "graph") rows true false h.1 is_graph (λ same. cc)
-only_check name rows (Some (Match code pcap stream)) is h asm is_graph is_asm = apart name (codes "match") (codes "check") h.0 is (λ (same : 651 ≡ 610). absurd (omega arith))
-only_check name rows (Some (Viewed code pcap view)) is h asm is_graph is_asm = apart name (codes "match") (codes "check") h.0 is (λ (same : 651 ≡ 610). absurd (omega arith))
-only_check name rows (Some (Explain code)) is h asm is_graph is_asm = apart name (codes "match") (codes "check") h.0 is (λ (same : 651 ≡ 610). absurd (omega arith))
-only_check name rows (Some Dump) is h asm is_graph is_asm = apart name (codes "dump") (codes "check") h is (λ (same : 661 ≡ 610). absurd (omega arith))
-only_check name rows (Some (Sim files)) is h asm is_graph is_asm = apart name (codes "sim") (codes "check") h.0 is (λ (same : 652 ≡ 610). absurd (omega arith))
-only_check name rows (Some (Keep kept inverted)) is h asm is_graph is_asm = apart name (codes "keep") (codes "check") h.0 is (λ (same : 612 ≡ 610). absurd (omega arith))
-only_check name rows (Some (Run files)) is h asm is_graph is_asm = apart name (codes "run") (codes "check") h.0 is (λ (same : 678 ≡ 610). absurd (omega arith))
-only_check name rows (Some (Draw text)) is h asm is_graph is_asm = apart name (codes "draw") (codes "check") h.0 is (λ (same : 619 ≡ 610). absurd (omega arith))
-only_check name rows None is h asm is_graph is_asm = absurd (subst (λ t. Contains command_names t → ⊥) is h (1, omega arith, refl))
+    → (asm : Bool) → one_of (codes "graph") rows ≡ Some (truth false) → one_of (codes "asm") rows ≡ Some (truth asm) → HasAssembler rows → r ≡ Some (Check AsmText asm)
+only_check name rows (Some (Check input given)) is h asm is_graph is_asm reads = ap₂ (λ i a. Some (Check i a)) (reads_assembler rows input h.1 reads) (flag_is (codes "asm") rows given asm h.3 is_asm)
+only_check name rows (Some (Graph input)) is h asm is_graph is_asm reads = not_given (codes "graph") rows true false h.2 is_graph (λ same. cc)
+only_check name rows (Some (Match code pcap stream)) is h asm is_graph is_asm reads = apart name (codes "match") (codes "check") h.0 is (λ (same : 651 ≡ 610). absurd (omega arith))
+only_check name rows (Some (Viewed code pcap view)) is h asm is_graph is_asm reads = apart name (codes "match") (codes "check") h.0 is (λ (same : 651 ≡ 610). absurd (omega arith))
+only_check name rows (Some (Explain code)) is h asm is_graph is_asm reads = apart name (codes "match") (codes "check") h.0 is (λ (same : 651 ≡ 610). absurd (omega arith))
+only_check name rows (Some (Dump s t)) is h asm is_graph is_asm reads = apart name (codes "dump") (codes "check") h.0 is (λ (same : 661 ≡ 610). absurd (omega arith))
+only_check name rows (Some (Sim files)) is h asm is_graph is_asm reads = apart name (codes "sim") (codes "check") h.0 is (λ (same : 652 ≡ 610). absurd (omega arith))
+only_check name rows (Some (Keep kept inverted)) is h asm is_graph is_asm reads = apart name (codes "keep") (codes "check") h.0 is (λ (same : 612 ≡ 610). absurd (omega arith))
+only_check name rows (Some (Run files)) is h asm is_graph is_asm reads = apart name (codes "run") (codes "check") h.0 is (λ (same : 678 ≡ 610). absurd (omega arith))
+only_check name rows (Some (Draw text)) is h asm is_graph is_asm reads = apart name (codes "draw") (codes "check") h.0 is (λ (same : 619 ≡ 610). absurd (omega arith))
+only_check name rows (Some (Compile words listing)) is h asm is_graph is_asm reads = apart name (codes "compile") (codes "check") h.0 is (λ (same : 648 ≡ 610). absurd (omega arith))
+only_check name rows None is h asm is_graph is_asm reads = absurd (subst (λ t. Contains command_names t → ⊥) is h (1, omega arith, refl))
 
 pub only_graph : (name : Text) (rows : List Row) (r : Option Request) → name ≡ codes "check" → Asks name rows r
-    → one_of (codes "graph") rows ≡ Some (truth true) → r ≡ Some Graph
-only_graph name rows (Some Graph) is h is_graph = refl
-only_graph name rows (Some (Check given)) is h is_graph = not_given (codes "graph") rows false true h.1 is_graph (λ same. cc)
-only_graph name rows (Some (Match code pcap stream)) is h is_graph = apart name (codes "match") (codes "check") h.0 is (λ (same : 651 ≡ 610). absurd (omega arith))
-only_graph name rows (Some (Viewed code pcap view)) is h is_graph = apart name (codes "match") (codes "check") h.0 is (λ (same : 651 ≡ 610). absurd (omega arith))
-only_graph name rows (Some (Explain code)) is h is_graph = apart name (codes "match") (codes "check") h.0 is (λ (same : 651 ≡ 610). absurd (omega arith))
-only_graph name rows (Some Dump) is h is_graph = apart name (codes "dump") (codes "check") h is (λ (same : 661 ≡ 610). absurd (omega arith))
-only_graph name rows (Some (Sim files)) is h is_graph = apart name (codes "sim") (codes "check") h.0 is (λ (same : 652 ≡ 610). absurd (omega arith))
-only_graph name rows (Some (Keep kept inverted)) is h is_graph = apart name (codes "keep") (codes "check") h.0 is (λ (same : 612 ≡ 610). absurd (omega arith))
-only_graph name rows (Some (Run files)) is h is_graph = apart name (codes "run") (codes "check") h.0 is (λ (same : 678 ≡ 610). absurd (omega arith))
-only_graph name rows (Some (Draw text)) is h is_graph = apart name (codes "draw") (codes "check") h.0 is (λ (same : 619 ≡ 610). absurd (omega arith))
-only_graph name rows None is h is_graph = absurd (subst (λ t. Contains command_names t → ⊥) is h (1, omega arith, refl))
+    → one_of (codes "graph") rows ≡ Some (truth true) → HasAssembler rows → r ≡ Some (Graph AsmText)
+only_graph name rows (Some (Graph input)) is h is_graph reads = ap (λ i. Some (Graph i)) (reads_assembler rows input h.1 reads)
+only_graph name rows (Some (Check input given)) is h is_graph reads = not_given (codes "graph") rows false true h.2 is_graph (λ same. cc)
+only_graph name rows (Some (Match code pcap stream)) is h is_graph reads = apart name (codes "match") (codes "check") h.0 is (λ (same : 651 ≡ 610). absurd (omega arith))
+only_graph name rows (Some (Viewed code pcap view)) is h is_graph reads = apart name (codes "match") (codes "check") h.0 is (λ (same : 651 ≡ 610). absurd (omega arith))
+only_graph name rows (Some (Explain code)) is h is_graph reads = apart name (codes "match") (codes "check") h.0 is (λ (same : 651 ≡ 610). absurd (omega arith))
+only_graph name rows (Some (Dump s t)) is h is_graph reads = apart name (codes "dump") (codes "check") h.0 is (λ (same : 661 ≡ 610). absurd (omega arith))
+only_graph name rows (Some (Sim files)) is h is_graph reads = apart name (codes "sim") (codes "check") h.0 is (λ (same : 652 ≡ 610). absurd (omega arith))
+only_graph name rows (Some (Keep kept inverted)) is h is_graph reads = apart name (codes "keep") (codes "check") h.0 is (λ (same : 612 ≡ 610). absurd (omega arith))
+only_graph name rows (Some (Run files)) is h is_graph reads = apart name (codes "run") (codes "check") h.0 is (λ (same : 678 ≡ 610). absurd (omega arith))
+only_graph name rows (Some (Draw text)) is h is_graph reads = apart name (codes "draw") (codes "check") h.0 is (λ (same : 619 ≡ 610). absurd (omega arith))
+only_graph name rows (Some (Compile words listing)) is h is_graph reads = apart name (codes "compile") (codes "check") h.0 is (λ (same : 648 ≡ 610). absurd (omega arith))
+only_graph name rows None is h is_graph reads = absurd (subst (λ t. Contains command_names t → ⊥) is h (1, omega arith, refl))
 
-pub only_dump : (name : Text) (rows : List Row) (r : Option Request) → name ≡ codes "dump" → Asks name rows r → r ≡ Some Dump
-only_dump name rows (Some Dump) is h = refl
-only_dump name rows (Some (Match code pcap stream)) is h = apart name (codes "match") (codes "dump") h.0 is (λ (same : 651 ≡ 661). absurd (omega arith))
-only_dump name rows (Some (Viewed code pcap view)) is h = apart name (codes "match") (codes "dump") h.0 is (λ (same : 651 ≡ 661). absurd (omega arith))
-only_dump name rows (Some (Explain code)) is h = apart name (codes "match") (codes "dump") h.0 is (λ (same : 651 ≡ 661). absurd (omega arith))
-only_dump name rows (Some (Check asm)) is h = apart name (codes "check") (codes "dump") h.0 is (λ (same : 610 ≡ 661). absurd (omega arith))
-only_dump name rows (Some Graph) is h = apart name (codes "check") (codes "dump") h.0 is (λ (same : 610 ≡ 661). absurd (omega arith))
-only_dump name rows (Some (Sim files)) is h = apart name (codes "sim") (codes "dump") h.0 is (λ (same : 652 ≡ 661). absurd (omega arith))
-only_dump name rows (Some (Keep kept inverted)) is h = apart name (codes "keep") (codes "dump") h.0 is (λ (same : 612 ≡ 661). absurd (omega arith))
-only_dump name rows (Some (Run files)) is h = apart name (codes "run") (codes "dump") h.0 is (λ (same : 678 ≡ 661). absurd (omega arith))
-only_dump name rows (Some (Draw text)) is h = apart name (codes "draw") (codes "dump") h.0 is (λ (same : 619 ≡ 661). absurd (omega arith))
-only_dump name rows None is h = absurd (subst (λ t. Contains command_names t → ⊥) is h (2, omega arith, refl))
+pub only_dump : (name : Text) (rows : List Row) (r : Option Request) → name ≡ codes "dump" → Asks name rows r
+    → one_of (codes "stream") rows ≡ Some (truth false) → one_of (codes "time") rows ≡ Some (truth false) → r ≡ Some (Dump false false)
+only_dump name rows (Some (Dump s t)) is h no_stream no_time = ap₂ (λ s t. Some (Dump s t)) (flag_is (codes "stream") rows s false h.1 no_stream) (flag_is (codes "time") rows t false h.2 no_time)
+only_dump name rows (Some (Match code pcap stream)) is h no_stream no_time = apart name (codes "match") (codes "dump") h.0 is (λ (same : 651 ≡ 661). absurd (omega arith))
+only_dump name rows (Some (Viewed code pcap view)) is h no_stream no_time = apart name (codes "match") (codes "dump") h.0 is (λ (same : 651 ≡ 661). absurd (omega arith))
+only_dump name rows (Some (Explain code)) is h no_stream no_time = apart name (codes "match") (codes "dump") h.0 is (λ (same : 651 ≡ 661). absurd (omega arith))
+only_dump name rows (Some (Check input asm)) is h no_stream no_time = apart name (codes "check") (codes "dump") h.0 is (λ (same : 610 ≡ 661). absurd (omega arith))
+only_dump name rows (Some (Graph input)) is h no_stream no_time = apart name (codes "check") (codes "dump") h.0 is (λ (same : 610 ≡ 661). absurd (omega arith))
+only_dump name rows (Some (Sim files)) is h no_stream no_time = apart name (codes "sim") (codes "dump") h.0 is (λ (same : 652 ≡ 661). absurd (omega arith))
+only_dump name rows (Some (Keep kept inverted)) is h no_stream no_time = apart name (codes "keep") (codes "dump") h.0 is (λ (same : 612 ≡ 661). absurd (omega arith))
+only_dump name rows (Some (Run files)) is h no_stream no_time = apart name (codes "run") (codes "dump") h.0 is (λ (same : 678 ≡ 661). absurd (omega arith))
+only_dump name rows (Some (Draw text)) is h no_stream no_time = apart name (codes "draw") (codes "dump") h.0 is (λ (same : 619 ≡ 661). absurd (omega arith))
+only_dump name rows (Some (Compile words listing)) is h no_stream no_time = apart name (codes "compile") (codes "dump") h.0 is (λ (same : 648 ≡ 661). absurd (omega arith))
+only_dump name rows None is h no_stream no_time = absurd (subst (λ t. Contains command_names t → ⊥) is h (2, omega arith, refl))
 
 pub only_draw : (name : Text) (rows : List Row) (r : Option Request) → name ≡ codes "draw" → Asks name rows r
     → (plain : Bool) → one_of (codes "text") rows ≡ Some (truth plain) → r ≡ Some (Draw plain)
@@ -160,12 +178,13 @@ only_draw name rows (Some (Draw given)) is h plain is_plain = ap (λ a. Some (Dr
 only_draw name rows (Some (Match code pcap stream)) is h plain is_plain = apart name (codes "match") (codes "draw") h.0 is (λ (same : 651 ≡ 619). absurd (omega arith))
 only_draw name rows (Some (Viewed code pcap view)) is h plain is_plain = apart name (codes "match") (codes "draw") h.0 is (λ (same : 651 ≡ 619). absurd (omega arith))
 only_draw name rows (Some (Explain code)) is h plain is_plain = apart name (codes "match") (codes "draw") h.0 is (λ (same : 651 ≡ 619). absurd (omega arith))
-only_draw name rows (Some (Check asm)) is h plain is_plain = apart name (codes "check") (codes "draw") h.0 is (λ (same : 610 ≡ 619). absurd (omega arith))
-only_draw name rows (Some Graph) is h plain is_plain = apart name (codes "check") (codes "draw") h.0 is (λ (same : 610 ≡ 619). absurd (omega arith))
-only_draw name rows (Some Dump) is h plain is_plain = apart name (codes "dump") (codes "draw") h is (λ (same : 661 ≡ 619). absurd (omega arith))
+only_draw name rows (Some (Check input asm)) is h plain is_plain = apart name (codes "check") (codes "draw") h.0 is (λ (same : 610 ≡ 619). absurd (omega arith))
+only_draw name rows (Some (Graph input)) is h plain is_plain = apart name (codes "check") (codes "draw") h.0 is (λ (same : 610 ≡ 619). absurd (omega arith))
+only_draw name rows (Some (Dump s t)) is h plain is_plain = apart name (codes "dump") (codes "draw") h.0 is (λ (same : 661 ≡ 619). absurd (omega arith))
 only_draw name rows (Some (Sim files)) is h plain is_plain = apart name (codes "sim") (codes "draw") h.0 is (λ (same : 652 ≡ 619). absurd (omega arith))
 only_draw name rows (Some (Keep kept inverted)) is h plain is_plain = apart name (codes "keep") (codes "draw") h.0 is (λ (same : 612 ≡ 619). absurd (omega arith))
 only_draw name rows (Some (Run files)) is h plain is_plain = apart name (codes "run") (codes "draw") h.0 is (λ (same : 678 ≡ 619). absurd (omega arith))
+only_draw name rows (Some (Compile words listing)) is h plain is_plain = apart name (codes "compile") (codes "draw") h.0 is (λ (same : 648 ≡ 619). absurd (omega arith))
 only_draw name rows None is h plain is_plain = absurd (subst (λ t. Contains command_names t → ⊥) is h (5, omega arith, refl))
 
 pub only_keep : (name : Text) (rows : List Row) (r : Option Request) → name ≡ codes "keep" → Asks name rows r
@@ -174,10 +193,11 @@ only_keep name rows (Some (Keep code given)) is h text inverted is_code is_not =
 only_keep name rows (Some (Match code pcap stream)) is h text inverted is_code is_not = apart name (codes "match") (codes "keep") h.0 is (λ (same : 651 ≡ 612). absurd (omega arith))
 only_keep name rows (Some (Viewed code pcap view)) is h text inverted is_code is_not = apart name (codes "match") (codes "keep") h.0 is (λ (same : 651 ≡ 612). absurd (omega arith))
 only_keep name rows (Some (Explain code)) is h text inverted is_code is_not = apart name (codes "match") (codes "keep") h.0 is (λ (same : 651 ≡ 612). absurd (omega arith))
-only_keep name rows (Some (Check asm)) is h text inverted is_code is_not = apart name (codes "check") (codes "keep") h.0 is (λ (same : 610 ≡ 612). absurd (omega arith))
-only_keep name rows (Some Graph) is h text inverted is_code is_not = apart name (codes "check") (codes "keep") h.0 is (λ (same : 610 ≡ 612). absurd (omega arith))
-only_keep name rows (Some Dump) is h text inverted is_code is_not = apart name (codes "dump") (codes "keep") h is (λ (same : 661 ≡ 612). absurd (omega arith))
+only_keep name rows (Some (Check input asm)) is h text inverted is_code is_not = apart name (codes "check") (codes "keep") h.0 is (λ (same : 610 ≡ 612). absurd (omega arith))
+only_keep name rows (Some (Graph input)) is h text inverted is_code is_not = apart name (codes "check") (codes "keep") h.0 is (λ (same : 610 ≡ 612). absurd (omega arith))
+only_keep name rows (Some (Dump s t)) is h text inverted is_code is_not = apart name (codes "dump") (codes "keep") h.0 is (λ (same : 661 ≡ 612). absurd (omega arith))
 only_keep name rows (Some (Sim files)) is h text inverted is_code is_not = apart name (codes "sim") (codes "keep") h.0 is (λ (same : 652 ≡ 612). absurd (omega arith))
 only_keep name rows (Some (Run files)) is h text inverted is_code is_not = apart name (codes "run") (codes "keep") h.0 is (λ (same : 678 ≡ 612). absurd (omega arith))
 only_keep name rows (Some (Draw plain)) is h text inverted is_code is_not = apart name (codes "draw") (codes "keep") h.0 is (λ (same : 619 ≡ 612). absurd (omega arith))
+only_keep name rows (Some (Compile words listing)) is h text inverted is_code is_not = apart name (codes "compile") (codes "keep") h.0 is (λ (same : 648 ≡ 612). absurd (omega arith))
 only_keep name rows None is h text inverted is_code is_not = absurd (subst (λ t. Contains command_names t → ⊥) is h (6, omega arith, refl))

@@ -1,12 +1,17 @@
 -- What the words of the command line ask for.
 use denote.Ref.{Bor}
-use Rattle.std.specs.Prelude.{◌≡◌, ◌++◌, ℕ, Bool, true, false, List, [], ◌∷◌, map, Option, Some, None, Ok, Err, unwrap_or, codes, ◌≢◌, ◌⊎◌}
+use Rattle.std.specs.Prelude.{◌≡◌, ◌++◌, ℕ, Bool, true, false, List, [], ◌∷◌, map, Option, Some, None, option_map, Ok, Err, unwrap_or, codes, ◌≢◌, ◌⊎◌}
 use Rattle.std.specs.List.{Contains}
 use Rattle.std.specs.Str.Parse.{ParsesUnsigned}
 use Rattle.clap.specs.Words.{Row, Text, all_of, first_of, one_of}
 use Rattle.command_line.specs.declared.request.Invocation.{Invocation}
+use Rattle.command_line.specs.declared.request.FileWords.{FileWords}
+use Rattle.command_line.specs.declared.request.CheckInput.{CheckInput}
+use Rattle.command_line.specs.declared.request.CheckInput.TheVariants.{Assembler as AsmText, Insns, Decimal as DecimalText}
 use Rattle.command_line.specs.declared.request.Request.{Request}
-use Rattle.command_line.specs.declared.request.Request.TheVariants.{Match, View as Viewed, Explain, Keep, Check, Graph, Dump, Sim, Run, Draw}
+use Rattle.command_line.specs.declared.request.Request.TheVariants.{Match, View as Viewed, Explain, Keep, Check, Graph, Dump, Sim, Run, Draw, Compile}
+use Rattle.command_line.specs.declared.request.Listing.{Listing}
+use Rattle.command_line.specs.declared.request.Listing.TheVariants.{Decimal, Assembler, Array, Control, Tree}
 use Rattle.command_line.specs.declared.request.MatchView.{MatchView}
 use Rattle.command_line.specs.declared.request.MatchView.TheVariants.{Numbers, Count, Quiet}
 
@@ -21,23 +26,49 @@ IsView rows (Some Count) = IsFlag (codes "quiet") rows false × IsFlag (codes "c
 IsView rows (Some Numbers) = IsFlag (codes "quiet") rows false × IsFlag (codes "count") rows false × IsFlag (codes "number") rows true
 IsView rows None = IsFlag (codes "quiet") rows false × IsFlag (codes "count") rows false × IsFlag (codes "number") rows false
 
--- the names of the captures
-abbrev pub IsFiles : List Row → List (Bor Text) → Type 0
-IsFiles rows files = map (λ f. f.now) files ≡ unwrap_or (all_of (codes "files") rows) []
+-- the texts of an argument, in order
+abbrev pub AreTexts : Text → List Row → List (Bor Text) → Type 0
+AreTexts name rows texts = map (λ t. t.now) texts ≡ unwrap_or (all_of name rows) []
 
--- the file that is the input: none where none is given, or where its name is `-`, for standard input
-abbrev pub IsInput : List Row → Option (Bor Text) → Type 0
-IsInput rows None = (first_of (codes "file") rows ≡ None) ⊎ (first_of (codes "file") rows ≡ Some (codes "-"))
-IsInput rows (Some name) = (first_of (codes "file") rows ≡ Some name.now) × (name.now ≢ codes "-")
+-- the file of a command that takes one, or else those of `match`
+abbrev pub inputs_in : Option Text → List Text → List Text
+inputs_in (Some name) names = name ∷ []
+inputs_in None names = names
+
+-- the files that are the input, as they are named
+abbrev pub AreInputs : List Row → List (Bor Text) → Type 0
+AreInputs rows inputs = map (λ f. f.now) inputs ≡ inputs_in (first_of (codes "file") rows) (unwrap_or (all_of (codes "inputs") rows) [])
+
+-- how words that name files are meant, each by its flag
+abbrev pub AreFileWords : List Row → FileWords → Type 0
+AreFileWords rows words = IsFlag (codes "code-file") rows words.code × IsFlag (codes "hex") rows words.digits × IsFlag (codes "no-filename") rows words.unnamed
+
+-- what `check` reads, by its flags
+abbrev pub IsCheckInput : List Row → CheckInput → Type 0
+IsCheckInput rows Insns = IsFlag (codes "insns") rows true
+IsCheckInput rows DecimalText = IsFlag (codes "insns") rows false × IsFlag (codes "ddd") rows true
+IsCheckInput rows AsmText = IsFlag (codes "insns") rows false × IsFlag (codes "ddd") rows false
+
+-- how a compiled filter is printed, or its expression, by the flags
+abbrev pub IsListing : List Row → Listing → Type 0
+IsListing rows Tree = IsFlag (codes "tree") rows true
+IsListing rows Control = IsFlag (codes "tree") rows false × IsFlag (codes "graph") rows true
+IsListing rows Array = IsFlag (codes "tree") rows false × IsFlag (codes "graph") rows false × IsFlag (codes "c") rows true
+IsListing rows Assembler = IsFlag (codes "tree") rows false × IsFlag (codes "graph") rows false × IsFlag (codes "c") rows false × IsFlag (codes "asm") rows true
+IsListing rows Decimal = IsFlag (codes "tree") rows false × IsFlag (codes "graph") rows false × IsFlag (codes "c") rows false × IsFlag (codes "asm") rows false
 
 -- the decimal digits of a number below 2^32 spell that, and no other text spells any
-abbrev pub SpellsLink : Text → Option ℕ → Type 0
-SpellsLink text None = ParsesUnsigned {E = Unit {0}} 32 10 text (Err tt)
-SpellsLink text (Some n) = ParsesUnsigned {E = Unit {0}} 32 10 text (Ok n)
+abbrev pub SpellsNumber : Text → Option ℕ → Type 0
+SpellsNumber text None = ParsesUnsigned {E = Unit {0}} 32 10 text (Err tt)
+SpellsNumber text (Some n) = ParsesUnsigned {E = Unit {0}} 32 10 text (Ok n)
 
--- the link type that is named: none where none is given, and else the number that its decimal digits spell
-abbrev pub IsLink : List Row → Option ℕ → Type 0
-IsLink rows link = (one_of (codes "link") rows ≡ None → link ≡ None) × ((text : Text) → one_of (codes "link") rows ≡ Some text → SpellsLink text link)
+-- the number of an argument: none where it isn't given, and else the number that its decimal digits spell
+abbrev pub IsNumber : Text → List Row → Option ℕ → Type 0
+IsNumber name rows number = (one_of name rows ≡ None → number ≡ None) × ((text : Text) → one_of name rows ≡ Some text → SpellsNumber text number)
+
+-- the link type that is named, as it is named
+abbrev pub IsLink : List Row → Option (Bor Text) → Type 0
+IsLink rows link = option_map (λ l. l.now) link ≡ first_of (codes "link") rows
 
 -- the captures that a request names
 abbrev pub captures_of : Request → List Text
@@ -46,7 +77,7 @@ captures_of (Run files) = map (λ f. f.now) files.items
 captures_of request = []
 
 abbrev pub command_names : List Text
-command_names = codes "match" ∷ codes "check" ∷ codes "dump" ∷ codes "sim" ∷ codes "run" ∷ codes "draw" ∷ codes "keep" ∷ []
+command_names = codes "match" ∷ codes "check" ∷ codes "dump" ∷ codes "sim" ∷ codes "run" ∷ codes "draw" ∷ codes "keep" ∷ codes "compile" ∷ []
 
 -- what a command of this name asks for, with the rows of its arguments
 abbrev pub Asks : Text → List Row → Option Request → Type 0
@@ -56,17 +87,19 @@ Asks name rows (Some (Viewed code pcap view)) = (name ≡ codes "match") × (cod
     × IsFlag (codes "explain") rows false × IsFlag (codes "pcap") rows pcap × IsView rows (Some view)
 Asks name rows (Some (Explain code)) = (name ≡ codes "match") × (code.now ≡ unwrap_or (first_of (codes "code") rows) []) × IsFlag (codes "explain") rows true
 Asks name rows (Some (Keep code inverted)) = (name ≡ codes "keep") × (code.now ≡ unwrap_or (first_of (codes "code") rows) []) × IsFlag (codes "not") rows inverted
-Asks name rows (Some (Check asm)) = (name ≡ codes "check") × IsFlag (codes "graph") rows false × IsFlag (codes "asm") rows asm
-Asks name rows (Some Graph) = (name ≡ codes "check") × IsFlag (codes "graph") rows true
-Asks name rows (Some Dump) = name ≡ codes "dump"
-Asks name rows (Some (Sim files)) = (name ≡ codes "sim") × IsFiles rows files.items
-Asks name rows (Some (Run files)) = (name ≡ codes "run") × IsFiles rows files.items
+Asks name rows (Some (Check input asm)) = (name ≡ codes "check") × IsCheckInput rows input × IsFlag (codes "graph") rows false × IsFlag (codes "asm") rows asm
+Asks name rows (Some (Graph input)) = (name ≡ codes "check") × IsCheckInput rows input × IsFlag (codes "graph") rows true
+Asks name rows (Some (Dump stream stamped)) = (name ≡ codes "dump") × IsFlag (codes "stream") rows stream × IsFlag (codes "time") rows stamped
+Asks name rows (Some (Sim files)) = (name ≡ codes "sim") × AreTexts (codes "files") rows files.items
+Asks name rows (Some (Run files)) = (name ≡ codes "run") × AreTexts (codes "files") rows files.items
 Asks name rows (Some (Draw text)) = (name ≡ codes "draw") × IsFlag (codes "text") rows text
+Asks name rows (Some (Compile words listing)) = (name ≡ codes "compile") × AreTexts (codes "words") rows words.items × IsListing rows listing
 Asks name rows None = Contains command_names name → ⊥
 
--- the same, with the file that is the input, and the link type that is named
+-- the same, with the files that are the input and how they are meant, the link type that is named, and how many bytes an expression accepts
 abbrev pub AsksWith : Text → List Row → Option Invocation → Type 0
-AsksWith name rows (Some invocation) = Asks name rows (Some invocation.request) × IsInput rows invocation.input × IsLink rows invocation.link
+AsksWith name rows (Some invocation) = Asks name rows (Some invocation.request) × AreInputs rows invocation.inputs.items × IsLink rows invocation.link
+    × IsNumber (codes "snap") rows invocation.accept × AreFileWords rows invocation.files
 AsksWith name rows None = Asks name rows None
 
 -- what the command that was found asks for
@@ -76,8 +109,13 @@ AsksBy None invocation = invocation ≡ None
 
 -- the request is such a one, its input is standard input, and no link type is named
 abbrev pub FromStandardInput : (Option Request → Type 0) → Option Invocation → Type 0
-FromStandardInput P (Some invocation) = P (Some invocation.request) × (invocation.input ≡ None) × (invocation.link ≡ None)
+FromStandardInput P (Some invocation) = P (Some invocation.request) × (invocation.inputs.items ≡ []) × (invocation.link ≡ None)
 FromStandardInput P None = P None
+
+-- the same of a request whose CODE is given, and not the name of a file, and where nothing is said of how many bytes are accepted
+abbrev pub FromGivenCode : (Option Request → Type 0) → Option Invocation → Type 0
+FromGivenCode P (Some invocation) = FromStandardInput P (Some invocation) × (invocation.files.code ≡ false) × (invocation.accept ≡ None)
+FromGivenCode P None = P None
 
 -- The words of the commands, after the program's name
 

@@ -5,4 +5,4 @@ mod program;
 mod request;
 mod texts;
 
-pub use request::{Invocation, MatchView, Request, request_of};
+pub use request::{CheckInput, FileWords, Invocation, Listing, MatchView, Request, request_of};

@@ -2,7 +2,7 @@
 
 /// The version, and the digest of the sources. dist/stamp.sh puts it in place of the text after `sources`.
 pub(crate) const VERSION: &str =
-    "0.1.0 (sources no digest: this program was built without dist/stamp.sh ........)";
+    "0.2.0 (sources no digest: this program was built without dist/stamp.sh ........)";
 
 pub(crate) const ABOUT: &str =
     "Run classic BPF filters on packets, and scripts on cores that replicate a table of filters, by engines that are proved";
@@ -21,7 +21,10 @@ docs/messages.md has each word that is printed, with its meaning and its cure.";
 pub(crate) const MATCH_ABOUT: &str = "Run a filter on packets";
 
 pub(crate) const MATCH_DETAILS: &str = "\
-Run a filter on the packets of FILE, or of standard input.
+Run a filter on the packets of each FILE, or of standard input.
+
+CODE is an expression, as tcpdump takes it, if it begins with a letter, `(`, `!` or `\\`: `tcp port 80 and not host 10.0.0.1`
+(docs/expressions.md). All else is decimal text, as `tcpdump -ddd` prints it. With --code, CODE is the name of a file that has it.
 
 A packet is a line with an even number of hexadecimal digits of either case, two for each byte; an empty line is an
 empty packet. For each packet one line is printed:
@@ -31,10 +34,16 @@ empty packet. For each packet one line is printed:
 the number of bytes that the filter keeps (0: not accepted) and the number of instructions that ran. At the first line
 that is no packet, `line N: BadHex` is printed and the command ends with status 1.
 
-With --pcap the input is a capture: a pcap savefile or pcapng, of either byte order. The packets before a fault of the
-capture are run, then `fault NAME` is printed, with the fault's place in the file where it has one, and the status is 1.
-A filter is written for one link type. Where the interfaces of a capture have several, one line on standard error says so, and
---link N runs the packets of link type N alone: 1 is Ethernet, 113 Linux's cooked packets, 276 their second version.
+With --pcap, and where a FILE begins as one does, the input is a capture: a pcap savefile or pcapng, of either byte order.
+--hex reads a FILE as lines all the same. The packets before a fault of the capture are run, then `fault NAME` is printed,
+with the fault's place in the file where it has one, and the status is 1.
+
+An expression is compiled for the link type of each packet's interface, or of lines for that of --link, or Ethernet. Decimal
+text is written for one link type. Where the interfaces of a capture have several, one line on standard error says so, and
+--link LINK runs the packets of that one alone: a number, or NULL, EN10MB (Ethernet), RAW, LOOP, LINUX_SLL (Linux's cooked
+packets), IPV4, IPV6 or LINUX_SLL2.
+
+Of several FILEs each line begins with the file's name and a colon, unless --no-filename is given; the status is the worst.
 
 With --number each line begins with its packet's number and a blank, and with --pcap the packet's time stamp and a blank come
 next: the seconds since 1970, and micro- or nanoseconds after a point, or `-` where it has none. --count prints `N of M` at the end
@@ -42,7 +51,8 @@ in place of the lines: so many packets were accepted, of so many that were run; 
 packet that is accepted, with status 0. Where none is, its status is 4, or 1 for a refused CODE or input.
 
 The filter is verified first: each accepted filter ends on each packet, within as many steps as it has instructions. A
-CODE that is no filter, or that the verifier refuses, prints one line that says why, with status 1, and nothing is read.
+CODE that is no filter, or that the verifier refuses, prints one line that says why, with status 1, and nothing is read. Of an
+expression three lines on standard error say more. One that packets of a link type can't have is reported at the first of these.
 
 An input of more than 64 MiB prints `fault InputTooLong` alone, with status 1.
 
@@ -70,17 +80,21 @@ Example: which of these packets are ARP?
     4294967295 3
     0 3
 
+The same, of a capture, by an expression:
+
+    $ mkdemux match arp packets.pcap
+
 Filters as tcpdump and bpf_asm write them are taken as they are:
 
-    $ mkdemux match \"$(tcpdump -ddd -y EN10MB arp)\" --pcap < packets.pcap
+    $ mkdemux match \"$(tcpdump -ddd -y EN10MB arp)\" packets.pcap
 
 Packets of a device, while they come:
 
-    # tcpdump -U -w - | mkdemux match --stream --pcap \"$(tcpdump -ddd -y EN10MB arp)\"
+    # tcpdump -U -w - | mkdemux match --stream --pcap arp
 
 Is there an ARP packet in it?
 
-    $ mkdemux match --quiet --pcap \"$(tcpdump -ddd -y EN10MB arp)\" < packets.pcap && echo yes
+    $ mkdemux match --quiet arp packets.pcap && echo yes
 
 Why is this packet ARP?
 
@@ -96,14 +110,36 @@ memory, a FILE that can't be opened or a device that failed, with one line on st
 packet was accepted.
 
 docs/messages.md has the meaning and the cure of each word that is printed:
-  after `code`     BadNumber CountMismatch TooLong
+  after `code`     BadNumber CountMismatch TooLong; `column C` and why an expression has no program
   after `refused`  Ancillary BadCode BadShift BadWord Empty JumpOut NoReturn Unwritten ZeroDivisor
   after `line N:`  BadHex
   after `fault`    BadByteOrder BadCaptured BadLength BadMagic BadVersion InputTooLong LengthNotRepeated NoInterface
                    TooLong TooManyInterfaces Truncated TruncatedHeader TruncatedRecord";
 
 pub(crate) const CODE_HELP: &str =
-    "The filter in decimal text: the number of instructions, then CODE JT JF K for each, separated by commas or newlines";
+    "The filter: an expression, such as 'tcp port 80', or decimal text, as `tcpdump -ddd` prints it";
+
+pub(crate) const DECIMAL_CODE_HELP: &str =
+    "The filter in decimal text, as `mkdemux compile` and `tcpdump -ddd` print it";
+
+pub(crate) const CODE_FILE_HELP: &str = "CODE is the name of a file that has the filter";
+
+pub(crate) const HEX_HELP: &str =
+    "Read lines of digits, even where a FILE begins as a capture does";
+
+pub(crate) const NO_FILENAME_HELP: &str =
+    "With several FILEs: print lines without the names of their files";
+
+pub(crate) const INSNS_HELP: &str =
+    "Read what `tcpdump -d` or `tcpdump -dd` prints in place of assembler text";
+
+pub(crate) const DDD_HELP: &str =
+    "Read decimal text in place of assembler text, and print assembler text";
+
+pub(crate) const DUMP_STREAM_HELP: &str =
+    "Print each line while the capture is read, which may be of any length";
+
+pub(crate) const TIME_HELP: &str = "Print the time stamp of each packet after its number";
 
 pub(crate) const PCAP_HELP: &str = "Read a capture in place of hexadecimal lines";
 
@@ -122,9 +158,11 @@ pub(crate) const QUIET_HELP: &str =
 pub(crate) const EXPLAIN_HELP: &str =
     "Print each instruction that ran, with the registers after it";
 
-pub(crate) const PACKETS_HELP: &str = "The file with the packets; `-`, or none, is standard input";
+pub(crate) const PACKETS_HELP: &str =
+    "The files with the packets, one after the other; `-`, or none, is standard input";
 
-pub(crate) const LINK_HELP: &str = "With --pcap: run the packets of this link type alone";
+pub(crate) const LINK_HELP: &str =
+    "Run the packets of this link type of a capture alone; an expression is compiled for it, or for 1, Ethernet, on lines of digits";
 
 pub(crate) const SHOWN_LINK_HELP: &str = "Print the packets of this link type alone";
 
@@ -149,9 +187,9 @@ each block that is no packet or whose packet is kept. A filter that accepts ever
 The capture may be of any length and come over any time: each packet is written as soon as it is whole and what has been
 read is handled, and it takes memory for the longest packet or block only.
 
-With --link N the filter runs on packets of link type N alone, as 1 for Ethernet, and no packet of another link type is
-copied, with --not neither. Without it one line on standard error says where the interfaces of a capture have several link
-types, since a filter is written for one.
+With --link LINK the filter runs on packets of that link type alone, as EN10MB, or 1, for Ethernet, and no packet of another
+link type is copied, with --not neither. Without it one line on standard error says where the interfaces of a capture have
+several link types, since decimal text is written for one.
 
 Standard output is a capture, so each line about what is wrong is on standard error. What was whole before a fault of the
 capture is written, then `fault NAME` is printed, with the fault's place in the file where it has one, and the status is 1.
@@ -161,12 +199,12 @@ The status is 0 where no packet was kept, too.";
 pub(crate) const KEEP_EXAMPLE: &str = "\
 Example: the ARP packets of a capture, and the others
 
-    $ mkdemux keep \"$(tcpdump -ddd -y EN10MB arp)\" packets.pcap > arp.pcap
-    $ mkdemux keep --not \"$(tcpdump -ddd -y EN10MB arp)\" packets.pcap > others.pcap
+    $ mkdemux keep \"$(mkdemux compile arp)\" packets.pcap > arp.pcap
+    $ mkdemux keep --not \"$(mkdemux compile arp)\" packets.pcap > others.pcap
 
 Packets of a device, while they come:
 
-    # tcpdump -U -w - | mkdemux keep \"$(tcpdump -ddd -y EN10MB arp)\" > arp.pcap
+    # tcpdump -U -w - | mkdemux keep \"$(mkdemux compile tcp port 80)\" > web.pcap
 
 Exit status: 0 done; 1 a refused CODE or capture, whose line is on standard error; 2 a fault of the command line; 3 out of
 memory, a FILE that can't be opened or a device that failed, with one line on standard error.
@@ -183,6 +221,8 @@ pub(crate) const CHECK_ABOUT: &str = "Assemble a filter";
 
 pub(crate) const CHECK_DETAILS: &str = "\
 Assemble the filter in FILE, or on standard input, and print it as the decimal text that `match` takes.
+
+With --insns it reads what `tcpdump -d` or `tcpdump -dd` prints, and with --ddd decimal text, which it prints as assembler text.
 
 The filter is written in the mnemonics of Linux's bpf_asm: a line has any number of labels, `name:`, and one instruction at
 most; `;` begins a comment. At the first fault `line N: NAME` is printed, with status 1:
@@ -236,6 +276,51 @@ pub(crate) const ASM_HELP: &str = "Print assembler text in place of decimal text
 pub(crate) const GRAPH_HELP: &str =
     "Print the control flow as text for Graphviz in place of decimal text";
 
+pub(crate) const COMPILE_ABOUT: &str = "Compile a filter expression";
+
+pub(crate) const COMPILE_DETAILS: &str = "\
+Compile a filter expression, as tcpdump takes it, and print the filter as the decimal text that `match` takes. Several words
+are joined by blanks, so quotes are needed only for the signs of the shell. docs/expressions.md has the language.
+
+The filter accepts exactly the packets of which the expression is true, and not those of which it has no value, since a byte
+is asked for that isn't there or a division is by 0. It is written for one link type, --link LINK: EN10MB or 1, Ethernet; NULL
+or 0, and LOOP or 108, BSD's loopback; RAW, 12 or 101, IPv4 or IPv6 alone; IPV4 or 228, IPV6 or 229; LINUX_SLL or 113, Linux's
+cooked packets, LINUX_SLL2 or 276 their second version.
+
+With --asm it is printed as assembler text, with --c as an array of C, a line for each instruction, and with --graph as text
+for Graphviz, as `check --graph` draws it. With --tree the expression is printed as it was read, with all qualifiers, and
+parentheses wherever `and` meets `or`.
+
+A text that is no expression, or one that the link type can't have, has its first fault printed: `column C: ` and what is
+wrong, and the text with a mark below; the status is 1.";
+
+pub(crate) const COMPILE_EXAMPLE: &str = "\
+Example: the web's packets of a capture, but for one host's
+
+    $ mkdemux keep \"$(mkdemux compile tcp port 80 and not host 10.0.0.1)\" packets.pcap > web.pcap
+
+    $ mkdemux compile --asm arp
+    l0: ldh [12]
+    l1: jeq #2054, l2, l3
+    l2: ret #262144
+    l3: ret #0
+
+Exit status: 0 done; 1 a refused expression, whose lines are on standard output; 2 a fault of the command line; 3 out of
+memory or a device that failed, with one line on standard error.";
+
+pub(crate) const C_HELP: &str = "Print an array of C in place of decimal text";
+
+pub(crate) const TREE_HELP: &str =
+    "Print the expression as it was read, with all qualifiers and parentheses, in place of a program";
+
+pub(crate) const COMPILED_LINK_HELP: &str =
+    "The link type of the packets: 1, Ethernet, where none is given";
+
+pub(crate) const SNAP_HELP: &str =
+    "The verdict of an expression on accepted packets, the most bytes that are kept: 262144 where none is given";
+
+pub(crate) const WORDS_HELP: &str = "The expression";
+
 pub(crate) const DUMP_ABOUT: &str = "Print the header and the packets of a capture";
 
 pub(crate) const DUMP_DETAILS: &str = "\
@@ -247,11 +332,12 @@ interface of pcapng and each packet are a line, and a fault, if there is one, is
     pcap little|big micro|nano snaplen N network N
     pcapng little|big version 1.N
     interface N snaplen N network N resolution 10^-N|2^-N offset N
-    N [interface I] captured C original O HEX
+    N [interface I] [TIME] captured C original O HEX
     fault NAME [PLACE]
 
-A packet's HEX is what `match` reads; it is `-` where no bytes were captured. A capture of more than 64 MiB prints
-`fault InputTooLong` alone, with status 1.";
+A packet's HEX is what `match` reads; it is `-` where no bytes were captured. With --time its TIME is printed, as `match
+--number` prints it. A capture of more than 64 MiB prints `fault InputTooLong` alone, with status 1; with --stream it may be of
+any length, and each line is written as soon as what it shows is whole and what has been read is handled.";
 
 pub(crate) const DUMP_EXAMPLE: &str = "\
 Example: the packets of a capture as lines for `match`

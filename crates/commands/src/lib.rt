@@ -3,4 +3,4 @@
 
 mod performing;
 
-pub use performing::{most_reads, perform};
+pub use performing::{Choices, most_reads, perform};

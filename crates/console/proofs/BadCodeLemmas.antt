@@ -1,5 +1,5 @@
 -- Of a code that spells no acceptable program one line is shown, but for the path to an unwritten word.
-use Rattle.std.proofs.Common.{◌≡◌, ◌≢◌, ℕ, ◌==◌, ◌⊎◌, inl, inr, if◌then◌else◌, List, ◌++◌, refl, sym, ap, ◌∙◌, arith, subst, codes}
+use Rattle.std.proofs.Common.{◌≡◌, ◌≢◌, ℕ, ◌==◌, ◌⊎◌, inl, inr, if◌then◌else◌, Bool, true, false, Option, None, Some, Result, Ok, Err, List, ◌++◌, refl, sym, ap, ◌∙◌, arith, subst, codes}
 use Rattle.std.specs.Fmt.{decimal}
 use Rattle.bpf_insn.specs.declared.insn.Insn.{Insn}
 use Rattle.bpf_insn.specs.declared.form.Form.TheVariants.{LdMem, LdxMem}
@@ -12,6 +12,14 @@ use Rattle.filter_verify.specs.Paths.{LoadsWord}
 use Rattle.filter_verify.specs.Rules.{Refuses}
 use Rattle.filter_verify.proofs.OneReason.{Refuses-same}
 use Rattle.filter_verify.proofs.Reasons.{Refuses-sound}
+use Rattle.expr_tree.specs.Expr.{Expr}
+use Rattle.expr_meaning.specs.declared.link.Link.{Link}
+use Rattle.expr_meaning.specs.declared.link.Link.TheVariants.{Ethernet}
+use Rattle.expr_parse.specs.Parsing.{Spells}
+use Rattle.console.specs.declared.filter.CodeFault.{CodeFault}
+use Rattle.console.specs.declared.filter.CodeFault.TheVariants.{Compile, Link as NoLink}
+use Rattle.console.specs.Expressions.{Gives, IsFilter, ShowsBadFilter}
+use Rattle.console.specs.Programs.{Programs}
 use Rattle.console.specs.Code.{IsGoodCode, SameButPath, ShowsBadCode, code_line, refused_line}
 
 -- the line for a refusal of this number at this place, where no path belongs to it
@@ -86,3 +94,21 @@ good_not_bad code program text good (inl bad) = spelled_or_faulty code program b
 good_not_bad code program text good (inr bad) =
     let same : program ≡ bad.0 = one_program code program bad.0 good.0 bad.1 in
     Refuses-sound bad.0 bad.2 (rw same at good.1) bad.3
+
+-- and neither has one that gives something to run, decimal text or an expression
+spelled : (code : List ℕ) (accept : ℕ) (given : Result (List Insn) CodeFault) → Gives code accept 1 given → (expr : Expr) × Spells code expr
+spelled code accept (Ok program) gives = (gives.2.expr, gives.2.spells)
+spelled code accept (Err (Compile fault)) gives = gives.3
+spelled code accept (Err (NoLink number)) gives = absurd (never gives.0)
+  where
+    never : (◌≡◌ {A = Option Link} (Some Ethernet) None) → ⊥
+    never e = cc
+
+not_both : {b : Bool} → b ≡ true → b ≡ false → ⊥
+not_both e f = cc
+
+pub filter_not_bad : (code : List ℕ) (accept : ℕ) (programs : Programs) (text words : List ℕ) → IsFilter code accept programs → ShowsBadFilter code text words → ⊥
+filter_not_bad code accept programs text words (inl good) (inl bad) = good_not_bad code good.1 text good.2 bad.1
+filter_not_bad code accept programs text words (inl good) (inr bad) = not_both bad.0 good.0
+filter_not_bad code accept programs text words (inr good) (inl bad) = not_both good.0 bad.0
+filter_not_bad code accept programs text words (inr good) (inr bad) = let expr = spelled code accept (programs 1) (good.1 1) in bad.3 expr.0 expr.1

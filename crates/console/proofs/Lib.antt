@@ -9,12 +9,15 @@ pub mod OnceLemmas
 pub mod BadCodeLemmas
 pub mod MatchingLemmas
 pub mod CodeLemmas
+pub mod ExpressionLemmas
 pub mod HexLemmas
 pub mod LinkLemmas
+pub mod RefusingLemmas
 pub mod RunningLemmas
 pub mod PrintingLemmas
 pub mod CapturedLemmas
 pub mod DumpingLemmas
+pub mod DumpStreamLemmas
 pub mod CaptureLemmas
 pub mod TakingLemmas
 pub mod CheckingLemmas

@@ -1,6 +1,5 @@
 -- Lines that come in pieces.
 use Rattle.std.proofs.Common.{◌≡◌, ℕ, ◌+◌, ◌-◌, ◌<◌, ◌≤◌, ◌==◌, Bool, true, false, inl, inr, List, [], ◌∷◌, ◌++◌, length, take, drop, get_or, arith, refl, ap, sym, ◌∙◌, append_assoc, length-append, length-take-le}
-use Rattle.std.specs.Prelude.{IsErr}
 use Rattle.std.specs.List.{position_or_len}
 use Rattle.std.specs.Str.Lines.{lines, strip_carriage_return}
 use Rattle.std.proofs.lemmas.Bool.Decides.{eqb_tells}
@@ -8,11 +7,10 @@ use Rattle.std.proofs.lemmas.List.{append-nil, get_or_append_left, get_or-take, 
 use Rattle.std.proofs.lemmas.List.Elements.{All-append, All-nil}
 use Rattle.std.proofs.lemmas.List.Sums.{position_or_len_is, fails_before_first, passes_at_first}
 use Rattle.std.proofs.Math.Seq.{take-append_seam, drop-append_seam, get_or-append_seam}
-use Rattle.hex.specs.Hex.{decode_of}
-use Rattle.bpf_insn.specs.declared.insn.Insn.{Insn}
+use Rattle.console.specs.Programs.{Programs}
 use Rattle.filter_vm.specs.declared.machine.Outcome.{Outcome}
 use Rattle.console.specs.declared.line_feed.LineFeed.{LineFeed}
-use Rattle.console.specs.Matching.{Answers}
+use Rattle.console.specs.Matching.{Answers, IsNotRun}
 use Rattle.console.specs.Running.{RunsTo}
 use Rattle.console.specs.Streaming.{IsOneLine, LinesEnded, LinesRan, LinesStopped}
 use Rattle.console.proofs.LineLemmas.{lines_first, lines_last}
@@ -63,11 +61,11 @@ lines_so_far taken done part before more good b parts whole clean clean' end =
     ∙ ap (λ t. good ++ t) (line_ends (part ++ before) more b (All-append (λ v. (v == 10) ≡ false) part before clean clean') end)
 
 -- one more line that spells a packet
-pub lines_next : (program : List Insn) (rest : List ℕ) (end : ℕ) (old new : LineFeed) (before after : List Outcome) (outcome : Outcome) → end < length rest → position_or_len (λ b. b == 10) rest ≡ end
-    → Answers program (strip_carriage_return (old.part.items ++ take end rest)) outcome → after ≡ before ++ outcome ∷ [] → new.part.items ≡ []
+pub lines_next : (programs : Programs) (rest : List ℕ) (end : ℕ) (old new : LineFeed) (before after : List Outcome) (outcome : Outcome) → end < length rest → position_or_len (λ b. b == 10) rest ≡ end
+    → new.link ≡ old.link → Answers programs old.link (strip_carriage_return (old.part.items ++ take end rest)) outcome → after ≡ before ++ outcome ∷ [] → new.part.items ≡ []
     → (old.number + 1 < 18446744073709551616 → new.number ≡ old.number + 1)
-    → RunsTo (LinesRan program) (LinesRan program) rest (take (length rest - (end + 1)) (drop (end + 1) rest)) old new before after
-lines_next program rest end old new before after outcome within at answers pushed empty counted = record {
+    → RunsTo (LinesRan programs) (LinesRan programs) rest (take (length rest - (end + 1)) (drop (end + 1) rest)) old new before after
+lines_next programs rest end old new before after outcome within at link answers pushed empty counted = record {
   front = take (end + 1) rest;
   parts = sym (take-append-drop (end + 1) rest) ∙ ap (λ t. take (end + 1) rest ++ t) (sym (take_rest rest (end + 1)));
   more = outcome ∷ [];
@@ -89,17 +87,17 @@ lines_next program rest end old new before after outcome within at answers pushe
             ∙ lines_so_far fed has.done old.part.items (take end rest) more has.good (get_or rest end 0) has.parts has.whole has.open_line (before_newline rest end within at) (is_newline rest end within at)
             ∙ sym (append_assoc has.good (line ∷ []) (lines more));
         open_line = rw empty (All-nil (λ v. (v == 10) ≡ false));
-        ran = AllZip-append (Answers program) has.good (line ∷ []) outcomes (outcome ∷ []) has.ran (answers, tt);
+        ran = rw link (AllZip-append (Answers programs old.link) has.good (line ∷ []) outcomes (outcome ∷ []) has.ran (answers, tt));
         count = number ∙ omega (arith, has.count, one_more);
         few = omega (arith, one_more, has.few, long, all);
       };
 }
 
--- a line that spells none
-pub lines_bad : (program : List Insn) (rest : List ℕ) (end : ℕ) (old new : LineFeed) (before after : List Outcome) → end < length rest → position_or_len (λ b. b == 10) rest ≡ end
-    → IsErr (decode_of (strip_carriage_return (old.part.items ++ take end rest))) → after ≡ before → new.number ≡ old.number
-    → RunsTo (LinesRan program) (LinesStopped program) rest [] old new before after
-lines_bad program rest end old new before after within at wrong same counted = record {
+-- a line that isn't run
+pub lines_bad : (programs : Programs) (rest : List ℕ) (end : ℕ) (old new : LineFeed) (before after : List Outcome) → end < length rest → position_or_len (λ b. b == 10) rest ≡ end
+    → new.link ≡ old.link → IsNotRun programs old.link (strip_carriage_return (old.part.items ++ take end rest)) new.refused → after ≡ before → new.number ≡ old.number
+    → RunsTo (LinesRan programs) (LinesStopped programs) rest [] old new before after
+lines_bad programs rest end old new before after within at link wrong same counted = record {
   front = rest;
   parts = sym (append-nil rest);
   more = [];
@@ -110,17 +108,17 @@ lines_bad program rest end old new before after within at wrong same counted = r
     more = lines (drop (end + 1) rest);
     parts = ap (λ t. lines (fed ++ t)) (newline_parts rest end within) ∙ ap lines (sym (append_assoc fed (take end rest) (get_or rest end 0 ∷ drop (end + 1) rest)))
         ∙ lines_so_far fed has.done old.part.items (take end rest) (drop (end + 1) rest) has.good (get_or rest end 0) has.parts has.whole has.open_line (before_newline rest end within at) (is_newline rest end within at);
-    wrong = wrong;
-    ran = rw (append-nil outcomes) has.ran;
+    wrong = rw link wrong;
+    ran = rw (link, append-nil outcomes) has.ran;
     count = counted ∙ has.count;
     few = omega (arith, has.few, ap length has.parts, length-append has.done old.part.items, length-append fed rest, within);
   };
 }
 
 -- bytes of a line that isn't whole
-pub lines_kept : (program : List Insn) (rest : List ℕ) (old new : LineFeed) (outcomes : List Outcome) → length rest ≤ position_or_len (λ b. b == 10) rest → new.part.items ≡ old.part.items ++ rest → new.number ≡ old.number
-    → RunsTo (LinesRan program) (LinesRan program) rest [] old new outcomes outcomes
-lines_kept program rest old new outcomes none kept counted = record {
+pub lines_kept : (programs : Programs) (rest : List ℕ) (old new : LineFeed) (outcomes : List Outcome) → length rest ≤ position_or_len (λ b. b == 10) rest → new.part.items ≡ old.part.items ++ rest → new.number ≡ old.number → new.link ≡ old.link
+    → RunsTo (LinesRan programs) (LinesRan programs) rest [] old new outcomes outcomes
+lines_kept programs rest old new outcomes none kept counted link = record {
   front = rest;
   parts = sym (append-nil rest);
   more = [];
@@ -131,7 +129,7 @@ lines_kept program rest old new outcomes none kept counted = record {
     parts = ap (λ t. t ++ rest) has.parts ∙ append_assoc has.done old.part.items rest ∙ ap (λ t. has.done ++ t) (sym kept);
     whole = has.whole;
     open_line = rw kept (All-append (λ v. (v == 10) ≡ false) old.part.items rest has.open_line (no_newline rest none));
-    ran = rw (append-nil outcomes) has.ran;
+    ran = rw (link, append-nil outcomes) has.ran;
     count = counted ∙ has.count;
     few = has.few;
   };
@@ -144,21 +142,21 @@ last_line taken done part good parts whole clean some =
     ap lines (append-nil taken ∙ parts) ∙ whole part ∙ ap (λ t. good ++ t) (lines_last part some (one_line part clean))
 
 -- the end of the last line, which spells a packet
-pub lines_last_good : (program : List Insn) (old new : LineFeed) (before after : List Outcome) (outcome : Outcome) → 0 < length old.part.items → Answers program old.part.items outcome → after ≡ before ++ outcome ∷ []
-    → RunsTo (LinesRan program) (LinesEnded program) [] [] old new before after
-lines_last_good program old new before after outcome some answers pushed = record {
+pub lines_last_good : (programs : Programs) (old new : LineFeed) (before after : List Outcome) (outcome : Outcome) → 0 < length old.part.items → new.link ≡ old.link → Answers programs old.link old.part.items outcome → after ≡ before ++ outcome ∷ []
+    → RunsTo (LinesRan programs) (LinesEnded programs) [] [] old new before after
+lines_last_good programs old new before after outcome some link answers pushed = record {
   front = [];
   parts = refl;
   more = outcome ∷ [];
   pushed = pushed;
   runs = λ fed outcomes has short.
-      rw (last_line fed has.done old.part.items has.good has.parts has.whole has.open_line some) (AllZip-append (Answers program) has.good (old.part.items ∷ []) outcomes (outcome ∷ []) has.ran (answers, tt));
+      rw (link, last_line fed has.done old.part.items has.good has.parts has.whole has.open_line some) (AllZip-append (Answers programs old.link) has.good (old.part.items ∷ []) outcomes (outcome ∷ []) has.ran (answers, tt));
 }
 
--- or none
-pub lines_last_bad : (program : List Insn) (old new : LineFeed) (outcomes : List Outcome) → 0 < length old.part.items → IsErr (decode_of old.part.items) → new.number ≡ old.number
-    → RunsTo (LinesRan program) (LinesStopped program) [] [] old new outcomes outcomes
-lines_last_bad program old new outcomes some wrong counted = record {
+-- or isn't run
+pub lines_last_bad : (programs : Programs) (old new : LineFeed) (outcomes : List Outcome) → 0 < length old.part.items → new.link ≡ old.link → IsNotRun programs old.link old.part.items new.refused → new.number ≡ old.number
+    → RunsTo (LinesRan programs) (LinesStopped programs) [] [] old new outcomes outcomes
+lines_last_bad programs old new outcomes some link wrong counted = record {
   front = [];
   parts = refl;
   more = [];
@@ -168,8 +166,8 @@ lines_last_bad program old new outcomes some wrong counted = record {
     bad = old.part.items;
     more = [];
     parts = last_line fed has.done old.part.items has.good has.parts has.whole has.open_line some;
-    wrong = wrong;
-    ran = rw (append-nil outcomes) has.ran;
+    wrong = rw link wrong;
+    ran = rw (link, append-nil outcomes) has.ran;
     count = counted ∙ has.count;
     few = omega (arith, has.few, ap length has.parts, length-append has.done old.part.items, length-append fed [], some);
   };

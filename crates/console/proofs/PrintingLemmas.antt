@@ -1,5 +1,5 @@
 -- A text that is printed bit by bit: what is written, what is kept back, and what is left to print.
-use Rattle.std.proofs.Common.{◌≡◌, ℕ, List, [], ◌∷◌, ◌++◌, Option, ap, sym, ◌∙◌, append_assoc, refl, true, false}
+use Rattle.std.proofs.Common.{◌≡◌, ℕ, Bool, List, [], ◌∷◌, ◌++◌, Option, ap, sym, ◌∙◌, append_assoc, refl, true, false}
 use Rattle.std.specs.Prelude.{Result, Ok, Err, OnErr}
 use Rattle.std.proofs.lemmas.List.{append-nil}
 use Rattle.capture_reader.specs.declared.fault.ReadFault.{ReadFault}
@@ -54,25 +54,25 @@ on_err (Ok v) P p = tt
 on_err (Err e) P p = p
 
 -- the lines that are left of a dump
-abbrev pub left_lines : Option ℕ → Place → List KeptEntry → Option ReadFault → List ℕ
-left_lines link place rest fault = entry_lines place.packets place.interfaces (chosen link (entries_of rest)) ++ fault_text fault
+abbrev pub left_lines : Option ℕ → Bool → Place → List KeptEntry → Option ReadFault → List ℕ
+left_lines link stamped place rest fault = entry_lines stamped place.packets place.interfaces (chosen link (entries_of rest)) ++ fault_text fault
 
-pub left_first : (link : Option ℕ) (place next : Place) (rest more : List KeptEntry) (kept : KeptEntry) (fault : Option ReadFault) (before after : List ℕ) → rest ≡ kept ∷ more → (prints : PrintsEntry link kept place next before after)
-    → left_lines link place rest fault ≡ prints.shown ++ left_lines link next more fault
-left_first link place next rest more kept fault before after first prints =
-    ap (λ r. left_lines link place r fault) first ∙ ap (λ t. t ++ fault_text fault) (prints.rest (entries_of more)) ∙ append_assoc prints.shown (entry_lines next.packets next.interfaces (chosen link (entries_of more))) (fault_text fault)
+pub left_first : (link : Option ℕ) (stamped : Bool) (place next : Place) (rest more : List KeptEntry) (kept : KeptEntry) (fault : Option ReadFault) (before after : List ℕ) → rest ≡ kept ∷ more → (prints : PrintsEntry link stamped kept place next before after)
+    → left_lines link stamped place rest fault ≡ prints.shown ++ left_lines link stamped next more fault
+left_first link stamped place next rest more kept fault before after first prints =
+    ap (λ r. left_lines link stamped place r fault) first ∙ ap (λ t. t ++ fault_text fault) (prints.rest (entries_of more)) ∙ append_assoc prints.shown (entry_lines stamped next.packets next.interfaces (chosen link (entries_of more))) (fault_text fault)
 
 -- the line for an entry that is shown, or none
-pub prints_shown : (link : Option ℕ) (kept : KeptEntry) (old new : Place) (before after : List ℕ) → is_chosen link kept.entry ≡ true → after ≡ before ++ entry_line old.packets old.interfaces kept.entry kept.bytes
-    → new.packets ≡ packets_after old.packets kept.entry → new.interfaces ≡ interfaces_after old.interfaces kept.entry → PrintsEntry link kept old new before after
-prints_shown link kept old new before after is printed packets interfaces = record {
-  shown = entry_line old.packets old.interfaces kept.entry kept.bytes;
+pub prints_shown : (link : Option ℕ) (stamped : Bool) (kept : KeptEntry) (old new : Place) (before after : List ℕ) → is_chosen link kept.entry ≡ true → after ≡ before ++ entry_line stamped old.packets old.interfaces kept.entry kept.bytes
+    → new.packets ≡ packets_after old.packets kept.entry → new.interfaces ≡ interfaces_after old.interfaces kept.entry → PrintsEntry link stamped kept old new before after
+prints_shown link stamped kept old new before after is printed packets interfaces = record {
+  shown = entry_line stamped old.packets old.interfaces kept.entry kept.bytes;
   printed = printed;
   rest = λ more. rw (is, packets, interfaces) refl;
 }
 
-pub prints_none : (link : Option ℕ) (kept : KeptEntry) (place : Place) (before : List ℕ) → is_chosen link kept.entry ≡ false → PrintsEntry link kept place place before before
-prints_none link kept place before is = record {
+pub prints_none : (link : Option ℕ) (stamped : Bool) (kept : KeptEntry) (place : Place) (before : List ℕ) → is_chosen link kept.entry ≡ false → PrintsEntry link stamped kept place place before before
+prints_none link stamped kept place before is = record {
   shown = [];
   printed = sym (append-nil before);
   rest = λ more. rw is refl;

@@ -1,10 +1,12 @@
 -- How packets are run while a capture is read.
-use Rattle.std.proofs.Common.{◌≡◌, ℕ, ◌+◌, ◌<◌, List, [], ◌∷◌, ◌++◌, length, drop, take, All, Bool, true, false, if◌then◌else◌, Option, None, Some, Ok, Err, arith, refl, ap, sym, ◌∙◌, append_assoc, length-append}
+use Rattle.std.proofs.Common.{◌≡◌, ℕ, ◌+◌, ◌<◌, List, [], ◌∷◌, ◌++◌, length, drop, take, All, Bool, true, false, if◌then◌else◌, Option, None, Some, Result, Ok, Err, arith, refl, ap, subst, sym, ◌∙◌, append_assoc, length-append}
+use Rattle.std.specs.Prelude.{◌≢◌, IfOk, IsSome, OnOk}
+use Rattle.std.specs.Bool.{MatchBool}
 use Rattle.std.specs.List.{AllZip}
 use Rattle.std.proofs.lemmas.List.{append-nil}
 use Rattle.std.proofs.lemmas.List.Elements.{All-append, All-drop, All-take}
 use Rattle.std.proofs.Math.Seq.{drop-append_seam, take-append_seam}
-use Rattle.bpf_insn.specs.declared.insn.Insn.{Insn}
+use Rattle.console.specs.Programs.{Programs}
 use Rattle.filter_vm.specs.declared.machine.Outcome.{Outcome}
 use Rattle.capture_reader.specs.declared.entry.PacketTime.{PacketTime}
 use Rattle.capture_reader.specs.declared.entry.SeenEntry.{SeenEntry}
@@ -12,16 +14,17 @@ use Rattle.capture_reader.specs.declared.entry.Found.{Found}
 use Rattle.capture_reader.specs.declared.entry.Found.TheVariants.{SeenEntry as Seen, Held, Nothing}
 use Rattle.capture_reader.specs.declared.fault.ReadFault.{ReadFault}
 use Rattle.capture_reader.specs.declared.feed.CaptureFeed.{CaptureFeed}
-use Rattle.capture_reader.specs.Entries.{EntryBytes, packets_in}
+use Rattle.capture_reader.specs.Entries.{EntryBytes}
 use Rattle.capture_reader.specs.Steps.{Adds, seen_item}
 use Rattle.capture_reader.specs.Holding.{Advances, HoldsAfter, held_entry, held_fault}
-use Rattle.capture_reader.proofs.LawLemmas.{packets_in-append}
 use Rattle.console.specs.declared.capture_run.CaptureRun.{CaptureRun}
 use Rattle.console.specs.Choosing.{chosen, entry_times, is_chosen, times_in}
 use Rattle.engine_io.specs.declared.source.Source.{Source}
 use Rattle.engine_io.specs.Devices.{Gets, GetsNothing}
-use Rattle.console.specs.Matching.{AnswersCaptured}
-use Rattle.console.specs.Running.{HasRun, RunsItem, RunsOn, RunsTo, item_entries, times_shown}
+use Rattle.console.specs.declared.filter.CodeFault.{CodeFault}
+use Rattle.console.specs.Refusing.{AnswersLinked, linked_in, refused_in, served}
+use Rattle.console.proofs.RefusingLemmas.{added_parts, linked_in-append, passed_parts}
+use Rattle.console.specs.Running.{HasRun, PassesOn, RunsItem, RunsOn, RunsTo, item_entries, times_shown}
 use Rattle.console.specs.Linking.{AreLinkTypes, links_in}
 use Rattle.console.proofs.LinkLemmas.{links_in-append}
 use Rattle.engine_io.proofs.KnownBytesLemmas.{gets-kept, gets-then}
@@ -79,8 +82,8 @@ adds_item given fed feed Held (Some i) is adds = let same : adds.0 ≡ seen_item
     one x y e = cc
 
 -- nothing was taken
-pub run_none : (program : List Insn) (bytes : List ℕ) (run : CaptureRun) (before : List Outcome) (since : List PacketTime) → RunsOn program bytes bytes run run before before since since
-run_none program bytes run before since = record {
+pub run_none : (programs : Programs) (bytes : List ℕ) (run : CaptureRun) (before : List Outcome) (since : List PacketTime) → RunsOn programs bytes bytes run run before before since since
+run_none programs bytes run before since = record {
   front = [];
   parts = refl;
   more = [];
@@ -95,9 +98,9 @@ small_rest bytes front rest small parts =
     let e : drop (length front) bytes ≡ rest = ap (drop (length front)) parts ∙ drop-append_seam front rest in rw e at (All-drop (λ b. b < 256) (length front) bytes small)
 
 -- one front and then another
-pub run_then : (program : List Insn) (bytes mid rest : List ℕ) (old other new : CaptureRun) (before between after : List Outcome) (since amid upto : List PacketTime)
-    → RunsOn program bytes mid old other before between since amid → RunsOn program mid rest other new between after amid upto → RunsOn program bytes rest old new before after since upto
-run_then program bytes mid rest old other new before between after since amid upto first next = record {
+pub run_then : (programs : Programs) (bytes mid rest : List ℕ) (old other new : CaptureRun) (before between after : List Outcome) (since amid upto : List PacketTime)
+    → RunsOn programs bytes mid old other before between since amid → RunsOn programs mid rest other new between after amid upto → RunsOn programs bytes rest old new before after since upto
+run_then programs bytes mid rest old other new before between after since amid upto first next = record {
   front = first.front ++ next.front;
   parts = first.parts ∙ ap (λ t. first.front ++ t) next.parts ∙ sym (append_assoc first.front next.front rest);
   more = first.more ++ next.more;
@@ -134,27 +137,65 @@ AddsLinks added old new = (links : List ℕ) → AreLinkTypes links old.links �
 pub no_links : (old new : CaptureRun) → new.links ≡ old.links → AddsLinks [] old new
 no_links old new same = λ links are. rw (append-nil links, same) are
 
--- the packet of an entry that was added
-runs_added : (program : List Insn) (fed front : List ℕ) (old new : CaptureRun) (outcomes more : List Outcome) (stamps times : List PacketTime) (entries added : List EntryBytes)
-    → (has : HasRun program fed old outcomes stamps) → has.entries ≡ entries → new.link ≡ old.link → new.stamped ≡ old.stamped → All (λ b. b < 256) front → HoldsAfter new.feed (entries ++ added) (fed ++ front)
-    → AllZip (AnswersCaptured program) (packets_in (chosen old.link added)) more → times ≡ times_shown old.stamped (chosen old.link added) → AddsLinks added old new
-    → HasRun program (fed ++ front) new (outcomes ++ more) (stamps ++ times)
-runs_added program fed front old new outcomes more stamps times entries added has is link stamped small holds ran seen linked = record {
-  entries = entries ++ added;
+-- the packet of an entry that was added, where none was refused before
+runs_added : (programs : Programs) (fed front : List ℕ) (old new : CaptureRun) (outcomes more : List Outcome) (stamps times : List PacketTime) (entries added : List EntryBytes)
+    → (has : HasRun programs fed old outcomes stamps) → has.entries ≡ entries → new.link ≡ old.link → new.stamped ≡ old.stamped
+    → old.refused ≡ None → new.refused ≡ refused_in programs (chosen old.link added) → All (λ b. b < 256) front → HoldsAfter new.feed (entries ++ added) (fed ++ front)
+    → AllZip (AnswersLinked programs) (linked_in (served programs (chosen old.link added))) more → times ≡ times_shown old.stamped (served programs (chosen old.link added)) → AddsLinks added old new
+    → HasRun programs (fed ++ front) new (outcomes ++ more) (stamps ++ times)
+runs_added programs fed front old new outcomes more stamps times entries added has is link stamped none stop small holds ran seen linked =
+    let parts = added_parts programs (chosen old.link entries) (chosen old.link added) (chosen new.link (entries ++ added)) (ap (λ l. chosen l (entries ++ added)) link ∙ chosen-append old.link entries added)
+    (ap (λ e. refused_in programs (chosen old.link e)) (sym is) ∙ sym has.refused ∙ none) in
+    record {
+      entries = entries ++ added;
+      holds = holds;
+      small = All-append (λ b. b < 256) fed front has.small small;
+      ran = rw (parts.0, linked_in-append (served programs (chosen old.link entries)) (served programs (chosen old.link added)))
+          (AllZip-append (AnswersLinked programs) (linked_in (served programs (chosen old.link entries))) (linked_in (served programs (chosen old.link added))) outcomes more (rw is at has.ran) ran);
+      refused = stop ∙ sym parts.1;
+      times = rw (stamped, parts.0, times_shown-append old.stamped (served programs (chosen old.link entries)) (served programs (chosen old.link added)))
+          (ap (λ t. t ++ times) (has.times ∙ ap (λ e. times_shown old.stamped (served programs (chosen old.link e))) is) ∙ ap (λ t. times_shown old.stamped (served programs (chosen old.link entries)) ++ t) seen);
+      links = rw (links_in-append entries added) (linked (links_in entries) (rw is at has.links));
+    }
+
+-- and where one was
+runs_passed : (programs : Programs) (fed front : List ℕ) (old new : CaptureRun) (outcomes : List Outcome) (stamps : List PacketTime) (entries added : List EntryBytes)
+    → (has : HasRun programs fed old outcomes stamps) → has.entries ≡ entries → new.link ≡ old.link → new.stamped ≡ old.stamped
+    → IsSome old.refused → new.refused ≡ old.refused → All (λ b. b < 256) front → HoldsAfter new.feed (entries ++ added) (fed ++ front) → AddsLinks added old new
+    → HasRun programs (fed ++ front) new outcomes stamps
+runs_passed programs fed front old new outcomes stamps entries added has is link stamped some same small holds linked =
+    let parts = passed_parts programs (chosen old.link entries) (chosen old.link added) (chosen new.link (entries ++ added)) old.refused (ap (λ l. chosen l (entries ++ added)) link ∙ chosen-append old.link entries added) some
+    (has.refused ∙ ap (λ e. refused_in programs (chosen old.link e)) is) in
+    record {
+      entries = entries ++ added;
+      holds = holds;
+      small = All-append (λ b. b < 256) fed front has.small small;
+      ran = rw parts.0 (rw is at has.ran);
+      refused = same ∙ sym parts.1;
+      times = rw (stamped, parts.0) (has.times ∙ ap (λ e. times_shown old.stamped (served programs (chosen old.link e))) is);
+      links = rw (links_in-append entries added) (linked (links_in entries) (rw is at has.links));
+    }
+
+-- no entry was added
+runs_same : (programs : Programs) (fed front : List ℕ) (old new : CaptureRun) (outcomes : List Outcome) (stamps : List PacketTime) (entries : List EntryBytes)
+    → (has : HasRun programs fed old outcomes stamps) → has.entries ≡ entries → new.link ≡ old.link → new.stamped ≡ old.stamped → new.refused ≡ old.refused → new.links ≡ old.links
+    → All (λ b. b < 256) front → HoldsAfter new.feed entries (fed ++ front) → HasRun programs (fed ++ front) new outcomes stamps
+runs_same programs fed front old new outcomes stamps entries has is link stamped refused links small holds = record {
+  entries = entries;
   holds = holds;
   small = All-append (λ b. b < 256) fed front has.small small;
-  ran = rw (link, chosen-append old.link entries added, packets_in-append (chosen old.link entries) (chosen old.link added))
-      (AllZip-append (AnswersCaptured program) (packets_in (chosen old.link entries)) (packets_in (chosen old.link added)) outcomes more (rw is at has.ran) ran);
-  times = rw (link, stamped, chosen-append old.link entries added, times_shown-append old.stamped (chosen old.link entries) (chosen old.link added))
-      (ap (λ t. t ++ times) (has.times ∙ ap (λ e. times_shown old.stamped (chosen old.link e)) is) ∙ ap (λ t. times_shown old.stamped (chosen old.link entries) ++ t) seen);
-  links = rw (links_in-append entries added) (linked (links_in entries) (rw is at has.links));
+  ran = rw link (rw is at has.ran);
+  refused = refused ∙ has.refused ∙ ap (λ e. refused_in programs (chosen old.link e)) is ∙ ap (λ l. refused_in programs (chosen l entries)) (sym link);
+  times = rw (stamped, link) (has.times ∙ ap (λ e. times_shown old.stamped (served programs (chosen old.link e))) is);
+  links = rw links (rw is at has.links);
 }
 
 -- an entry that was seen in place, or is held, or none
-pub run_item : (program : List Insn) (bytes rest : List ℕ) (old new : CaptureRun) (found : Found) (item : Option SeenEntry) (before after : List Outcome) (since upto : List PacketTime)
-    → Advances bytes rest old.feed new.feed (Ok found) → IsFound new.feed found item → new.link ≡ old.link → new.stamped ≡ old.stamped → RunsItem program old.link old.stamped item before after since upto → AddsLinks (item_entries item) old new
-    → RunsOn program bytes rest old new before after since upto
-run_item program bytes rest old new found item before after since upto takes is link stamped ran linked = record {
+pub run_item : (programs : Programs) (bytes rest : List ℕ) (old new : CaptureRun) (found : Found) (item : Option SeenEntry) (stop : Option CodeFault) (before after : List Outcome) (since upto : List PacketTime)
+    → Advances bytes rest old.feed new.feed (Ok found) → IsFound new.feed found item → new.link ≡ old.link → new.stamped ≡ old.stamped → old.refused ≡ None → new.refused ≡ stop
+    → RunsItem programs old.link old.stamped item stop before after since upto → AddsLinks (item_entries item) old new
+    → RunsOn programs bytes rest old new before after since upto
+run_item programs bytes rest old new found item stop before after since upto takes is link stamped none stopped ran linked = record {
   front = takes.front;
   parts = takes.parts;
   more = ran.more;
@@ -162,44 +203,95 @@ run_item program bytes rest old new found item before after since upto takes is 
   pushed = ran.pushed;
   pushed_times = ran.pushed_times;
   runs = λ fed outcomes stamps has small short.
-      runs_added program fed takes.front old new outcomes ran.more stamps ran.times has.entries (item_entries item) has refl link stamped (small_front bytes takes.front rest small takes.parts)
+      runs_added programs fed takes.front old new outcomes ran.more stamps ran.times has.entries (item_entries item) has refl link stamped none (stopped ∙ ran.stops) (small_front bytes takes.front rest small takes.parts)
       (adds_item has.entries (fed ++ takes.front) new.feed found item is (takes.adds has.entries fed has.holds short)) ran.ran ran.seen linked;
 }
 
+-- the same after a packet was refused
+pub pass_item : (bytes rest : List ℕ) (old new : CaptureRun) (found : Found) (item : Option SeenEntry)
+    → Advances bytes rest old.feed new.feed (Ok found) → IsFound new.feed found item → new.link ≡ old.link → new.stamped ≡ old.stamped → IsSome old.refused → new.refused ≡ old.refused
+    → AddsLinks (item_entries item) old new → PassesOn bytes rest old new
+pass_item bytes rest old new found item takes is link stamped some same linked = λ programs before since. record {
+  front = takes.front;
+  parts = takes.parts;
+  more = [];
+  times = [];
+  pushed = sym (append-nil before);
+  pushed_times = sym (append-nil since);
+  runs = λ fed outcomes stamps has small short. rw (append-nil outcomes, append-nil stamps)
+      (runs_passed programs fed takes.front old new outcomes stamps has.entries (item_entries item) has refl link stamped some same (small_front bytes takes.front rest small takes.parts)
+      (adds_item has.entries (fed ++ takes.front) new.feed found item is (takes.adds has.entries fed has.holds short)) linked);
+}
+
+-- one front and then another, without running
+pub pass_none : (bytes : List ℕ) (run : CaptureRun) → PassesOn bytes bytes run run
+pass_none bytes run = λ programs outcomes stamps. run_none programs bytes run outcomes stamps
+
+pub pass_then : (bytes mid rest : List ℕ) (old other new : CaptureRun) → PassesOn bytes mid old other → PassesOn mid rest other new → PassesOn bytes rest old new
+pass_then bytes mid rest old other new first next = λ programs outcomes stamps.
+    run_then programs bytes mid rest old other new outcomes outcomes outcomes stamps stamps stamps (first programs outcomes stamps) (next programs outcomes stamps)
+
+-- how it goes on after an entry: where the packet was refused, without running, and else as before
+abbrev pub WentOn : Bool → Option CodeFault → List ℕ → List ℕ → CaptureRun → CaptureRun → Type 0
+WentOn stopped stop before after old new = MatchBool stopped
+    ((after ≡ []) × IsSome new.refused × PassesOn before [] (record old { refused = stop }) new)
+    ((stop ≡ None) × (new ≡ old) × (after ≡ before))
+
+went_on : (programs : Programs) (bytes mid rest : List ℕ) (old found new : CaptureRun) (stopped : Bool) (stop : Option CodeFault) (before after : List Outcome) (since upto : List PacketTime)
+    → found.refused ≡ None → RunsOn programs bytes mid old (record found { refused = stop }) before after since upto → WentOn stopped stop mid rest found new → RunsOn programs bytes rest old new before after since upto
+went_on programs bytes mid rest old found new true stop before after since upto none ran went =
+    rw went.0 (run_then programs bytes mid [] old (record found { refused = stop }) new before after after since upto upto ran (went.2 programs after upto))
+went_on programs bytes mid rest old found new false stop before after since upto none ran went =
+    rw (went.1, went.2) (subst (λ (r : CaptureRun). RunsOn programs bytes mid old r before after since upto) (same found stop (went.0 ∙ sym none)) ran)
+  where
+    same : (run : CaptureRun) (refused : Option CodeFault) → refused ≡ run.refused → record run { refused = refused } ≡ run
+    same run refused is = rw is refl
+
+pub after_runs : {E : Type 0} (r : Result Bool E) (programs : Programs) (bytes mid rest : List ℕ) (old found new : CaptureRun) (seen : Found) (item : Option SeenEntry) (stop : Option CodeFault) (before after : List Outcome) (since upto : List PacketTime)
+    → Advances bytes mid old.feed found.feed (Ok seen) → IsFound found.feed seen item → found.link ≡ old.link → found.stamped ≡ old.stamped → found.refused ≡ old.refused → old.refused ≡ None
+    → RunsItem programs old.link old.stamped item stop before after since upto → AddsLinks (item_entries item) old found
+    → IfOk r (λ stopped. WentOn stopped stop mid rest found new) → OnOk r (RunsOn programs bytes rest old new before after since upto)
+after_runs (Err e) programs bytes mid rest old found new seen item stop before after since upto takes is link stamped same none ran linked went = tt
+after_runs (Ok stopped) programs bytes mid rest old found new seen item stop before after since upto takes is link stamped same none ran linked went =
+    went_on programs bytes mid rest old found new stopped stop before after since upto (same ∙ none)
+    (run_item programs bytes mid old (record found { refused = stop }) seen item stop before after since upto takes is link stamped none refl ran linked) went
+
+pub after_shorter : {E : Type 0} (r : Result Bool E) (stop : Option CodeFault) (bytes mid rest : List ℕ) (found new : CaptureRun) → (bytes ≢ [] → length mid < length bytes) → IfOk r (λ stopped. WentOn stopped stop mid rest found new)
+    → IfOk r (λ _. bytes ≢ [] → length rest < length bytes)
+after_shorter (Err e) stop bytes mid rest found new shorter went = tt
+after_shorter (Ok true) stop bytes mid rest found new shorter went = λ some. rw went.0 (omega (arith, shorter some))
+after_shorter (Ok false) stop bytes mid rest found new shorter went = λ some. rw went.2 (shorter some)
+
 -- no packet was run
-pub none_run : (program : List Insn) (link : Option ℕ) (stamped : Bool) (outcomes : List Outcome) (stamps : List PacketTime) → RunsItem program link stamped None outcomes outcomes stamps stamps
-none_run program link true outcomes stamps = record { more = []; times = []; pushed = sym (append-nil outcomes); pushed_times = sym (append-nil stamps); ran = tt; seen = refl }
-none_run program link false outcomes stamps = record { more = []; times = []; pushed = sym (append-nil outcomes); pushed_times = sym (append-nil stamps); ran = tt; seen = refl }
+pub none_run : (programs : Programs) (link : Option ℕ) (stamped : Bool) (outcomes : List Outcome) (stamps : List PacketTime) → RunsItem programs link stamped None None outcomes outcomes stamps stamps
+none_run programs link true outcomes stamps = record { more = []; times = []; pushed = sym (append-nil outcomes); pushed_times = sym (append-nil stamps); ran = tt; seen = refl; stops = refl }
+none_run programs link false outcomes stamps = record { more = []; times = []; pushed = sym (append-nil outcomes); pushed_times = sym (append-nil stamps); ran = tt; seen = refl; stops = refl }
 
 -- a capture with a fault
-pub run_stopped : (program : List Insn) (bytes rest : List ℕ) (old new : CaptureRun) (before : List Outcome) (since : List PacketTime) (fault : ReadFault) → new.link ≡ old.link → new.stamped ≡ old.stamped → new.links ≡ old.links
-    → held_fault new.feed ≡ Some fault → Advances bytes rest old.feed new.feed (Err fault) → RunsOn program bytes [] old new before before since since
-run_stopped program bytes rest old new before since fault link stamped links says advances = record {
+pub run_stopped : (programs : Programs) (bytes rest : List ℕ) (old new : CaptureRun) (before : List Outcome) (since : List PacketTime) (fault : ReadFault) → new.link ≡ old.link → new.stamped ≡ old.stamped → new.refused ≡ old.refused → new.links ≡ old.links
+    → held_fault new.feed ≡ Some fault → Advances bytes rest old.feed new.feed (Err fault) → RunsOn programs bytes [] old new before before since since
+run_stopped programs bytes rest old new before since fault link stamped refused links says advances = record {
   front = bytes;
   parts = sym (append-nil bytes);
   more = [];
   times = [];
   pushed = sym (append-nil before);
   pushed_times = sym (append-nil since);
-  runs = λ fed outcomes stamps has small short.
-      runs_added program fed bytes old new outcomes [] stamps [] has.entries [] has refl link stamped small (rw (says, append-nil has.entries) (advances has.entries fed has.holds short)) tt (sym (none_shown old.stamped)) (no_links old new links);
+  runs = λ fed outcomes stamps has small short. rw (append-nil outcomes, append-nil stamps)
+      (runs_same programs fed bytes old new outcomes stamps has.entries has refl link stamped refused links small (rw says (advances has.entries fed has.holds short)));
 }
-  where
-    none_shown : (stamped : Bool) → times_shown stamped [] ≡ []
-    none_shown true = refl
-    none_shown false = refl
 
 -- a source got these bytes, whose whole packets were run
-pub record SoRun {R : Type 0} (program : List Insn) (remaining : R → Option (List ℕ)) (old new : Source R) (run : CaptureRun) (outcomes : List Outcome) (stamps : List PacketTime) (taken : ℕ) : Type 0 where
+pub record SoRun {R : Type 0} (programs : Programs) (remaining : R → Option (List ℕ)) (old new : Source R) (run : CaptureRun) (outcomes : List Outcome) (stamps : List PacketTime) (taken : ℕ) : Type 0 where
   pub given : List ℕ
   pub lost : Gets remaining old new given
-  pub has : HasRun program given run outcomes stamps
+  pub has : HasRun programs given run outcomes stamps
   pub count : taken ≡ length given
 
-pub so_run_next : (program : List Insn) {R : Type 0} {remaining : R → Option (List ℕ)} (old mid new : Source R) (run run' : CaptureRun) (before after : List Outcome) (since upto : List PacketTime) (taken taken' : ℕ) (piece : List ℕ)
-    → SoRun program remaining old mid run before since taken → Gets remaining mid new piece → taken' ≡ taken + length piece → taken' < 18446744073709551616
-    → RunsOn program piece [] run run' before after since upto → All (λ b. b < 256) piece → SoRun program remaining old new run' after upto taken'
-so_run_next program old mid new run run' before after since upto taken taken' piece so next count short runs small =
+pub so_run_next : (programs : Programs) {R : Type 0} {remaining : R → Option (List ℕ)} (old mid new : Source R) (run run' : CaptureRun) (before after : List Outcome) (since upto : List PacketTime) (taken taken' : ℕ) (piece : List ℕ)
+    → SoRun programs remaining old mid run before since taken → Gets remaining mid new piece → taken' ≡ taken + length piece → taken' < 18446744073709551616
+    → RunsOn programs piece [] run run' before after since upto → All (λ b. b < 256) piece → SoRun programs remaining old new run' after upto taken'
+so_run_next programs old mid new run run' before after since upto taken taken' piece so next count short runs small =
     let all : piece ≡ runs.front = runs.parts ∙ append-nil runs.front in
     record {
       given = so.given ++ piece;
@@ -209,6 +301,6 @@ so_run_next program old mid new run run' before after since upto taken taken' pi
     }
 
 -- a read that failed and took nothing
-pub so_run_kept : (program : List Insn) {R : Type 0} {remaining : R → Option (List ℕ)} (old mid new : Source R) (run : CaptureRun) (outcomes : List Outcome) (stamps : List PacketTime) (taken taken' : ℕ) → SoRun program remaining old mid run outcomes stamps taken → GetsNothing remaining mid new → taken' ≡ taken
-    → SoRun program remaining old new run outcomes stamps taken'
-so_run_kept program old mid new run outcomes stamps taken taken' so kept same = record { given = so.given; lost = gets-kept old mid new so.given so.lost kept; has = so.has; count = same ∙ so.count }
+pub so_run_kept : (programs : Programs) {R : Type 0} {remaining : R → Option (List ℕ)} (old mid new : Source R) (run : CaptureRun) (outcomes : List Outcome) (stamps : List PacketTime) (taken taken' : ℕ) → SoRun programs remaining old mid run outcomes stamps taken → GetsNothing remaining mid new → taken' ≡ taken
+    → SoRun programs remaining old new run outcomes stamps taken'
+so_run_kept programs old mid new run outcomes stamps taken taken' so kept same = record { given = so.given; lost = gets-kept old mid new so.given so.lost kept; has = so.has; count = same ∙ so.count }

@@ -2,7 +2,7 @@
 use Rattle.std.proofs.Common.{◌≡◌, ◌∙◌, ◌++◌, ℕ, ◌<◌, All, List, [], Bool, true, false, Result, Ok, Err, IfOk, refl, sym, append-nil}
 use Rattle.std.specs.Prelude.{IsTrue, OnOk}
 use Rattle.std.specs.Bool.{MatchBool}
-use Rattle.bpf_insn.specs.declared.insn.Insn.{Insn}
+use Rattle.console.specs.Programs.{Programs}
 use Rattle.filter_vm.specs.declared.machine.Outcome.{Outcome}
 use Rattle.capture_reader.specs.declared.entry.PacketTime.{PacketTime}
 use Rattle.console.specs.declared.capture_run.CaptureRun.{CaptureRun}
@@ -28,21 +28,21 @@ plain_to From To From' To' bytes old new old' new' before after since into out r
       out (fed ++ bytes) (outcomes ++ r.more) (stamps ++ []) (rw whole (r.runs fed outcomes from.0 (rw whole at short))) (append-nil stamps ∙ from.1);
 }
 
-pub lines_run : {E : Type 0} (r : Result Bool E) (program : List Insn) (bytes : List ℕ) (source : PacketSource) (old new : LineFeed) (before after : List Outcome) (since : List PacketTime) → source ≡ Lines old
+pub lines_run : {E : Type 0} (r : Result Bool E) (programs : Programs) (bytes : List ℕ) (source : PacketSource) (old new : LineFeed) (before after : List Outcome) (since : List PacketTime) → source ≡ Lines old
     → IfOk r (λ stopped. MatchBool stopped
-    (RunsTo (LinesRan program) (LinesStopped program) bytes [] old new before after)
-    (RunsTo (LinesRan program) (LinesRan program) bytes [] old new before after))
+    (RunsTo (LinesRan programs) (LinesStopped programs) bytes [] old new before after)
+    (RunsTo (LinesRan programs) (LinesRan programs) bytes [] old new before after))
     → IfOk r (λ stopped. MatchBool stopped
-    (StampTo (SourceRan program) (SourceEnded program true) bytes source (Lines new) before after since since)
-    (StampTo (SourceRan program) (SourceRan program) bytes source (Lines new) before after since since))
-lines_run (Ok true) program bytes source old new before after since is ran = rw is (plain_to (LinesRan program) (LinesStopped program) (SourceRan program) (SourceEnded program true) bytes old new (Lines old) (Lines new) before after since (λ fed outcomes stamps has. has) (λ fed outcomes stamps has none. (has, none)) ran)
-lines_run (Ok false) program bytes source old new before after since is ran = rw is (plain_to (LinesRan program) (LinesRan program) (SourceRan program) (SourceRan program) bytes old new (Lines old) (Lines new) before after since (λ fed outcomes stamps has. has) (λ fed outcomes stamps has none. (has, none)) ran)
-lines_run (Err e) program bytes source old new before after since is ran = tt
+    (StampTo (SourceRan programs) (SourceEnded programs true) bytes source (Lines new) before after since since)
+    (StampTo (SourceRan programs) (SourceRan programs) bytes source (Lines new) before after since since))
+lines_run (Ok true) programs bytes source old new before after since is ran = rw is (plain_to (LinesRan programs) (LinesStopped programs) (SourceRan programs) (SourceEnded programs true) bytes old new (Lines old) (Lines new) before after since (λ fed outcomes stamps has. has) (λ fed outcomes stamps has none. (has, none)) ran)
+lines_run (Ok false) programs bytes source old new before after since is ran = rw is (plain_to (LinesRan programs) (LinesRan programs) (SourceRan programs) (SourceRan programs) bytes old new (Lines old) (Lines new) before after since (λ fed outcomes stamps has. has) (λ fed outcomes stamps has none. (has, none)) ran)
+lines_run (Err e) programs bytes source old new before after since is ran = tt
 
 -- what a run of a capture did is what its source did
-capture_to : (program : List Insn) (bytes : List ℕ) (old new : CaptureRun) (before after : List Outcome) (since upto : List PacketTime) → RunsOn program bytes [] old new before after since upto → All (λ b. b < 256) bytes
-    → StampTo (SourceRan program) (SourceRan program) bytes (Captured old) (Captured new) before after since upto
-capture_to program bytes old new before after since upto r small = record {
+capture_to : (programs : Programs) (bytes : List ℕ) (old new : CaptureRun) (before after : List Outcome) (since upto : List PacketTime) → RunsOn programs bytes [] old new before after since upto → All (λ b. b < 256) bytes
+    → StampTo (SourceRan programs) (SourceRan programs) bytes (Captured old) (Captured new) before after since upto
+capture_to programs bytes old new before after since upto r small = record {
   more = r.more;
   times = r.times;
   pushed = r.pushed;
@@ -51,9 +51,9 @@ capture_to program bytes old new before after since upto r small = record {
       let whole : bytes ≡ r.front = r.parts ∙ append-nil r.front in rw whole (r.runs fed outcomes stamps has small (rw whole at short));
 }
 
-capture_stops : (program : List Insn) (bytes : List ℕ) (old new : CaptureRun) (before after : List Outcome) (since upto : List PacketTime) → IsStopped new → RunsOn program bytes [] old new before after since upto → All (λ b. b < 256) bytes
-    → StampTo (SourceRan program) (SourceEnded program true) bytes (Captured old) (Captured new) before after since upto
-capture_stops program bytes old new before after since upto stopped r small = record {
+capture_stops : (programs : Programs) (bytes : List ℕ) (old new : CaptureRun) (before after : List Outcome) (since upto : List PacketTime) → IsStopped new → RunsOn programs bytes [] old new before after since upto → All (λ b. b < 256) bytes
+    → StampTo (SourceRan programs) (SourceEnded programs true) bytes (Captured old) (Captured new) before after since upto
+capture_stops programs bytes old new before after since upto stopped r small = record {
   more = r.more;
   times = r.times;
   pushed = r.pushed;
@@ -62,26 +62,26 @@ capture_stops program bytes old new before after since upto stopped r small = re
       let whole : bytes ≡ r.front = r.parts ∙ append-nil r.front in (rw whole (r.runs fed outcomes stamps has small (rw whole at short)), stopped);
 }
 
-pub capture_run : {E : Type 0} (r : Result Bool E) (program : List Insn) (bytes : List ℕ) (source : PacketSource) (old new : CaptureRun) (before after : List Outcome) (since upto : List PacketTime) → source ≡ Captured old
-    → OnOk r (RunsOn program bytes [] old new before after since upto) → IfOk r (λ stopped. IsTrue stopped → IsStopped new) → All (λ b. b < 256) bytes
+pub capture_run : {E : Type 0} (r : Result Bool E) (programs : Programs) (bytes : List ℕ) (source : PacketSource) (old new : CaptureRun) (before after : List Outcome) (since upto : List PacketTime) → source ≡ Captured old
+    → OnOk r (RunsOn programs bytes [] old new before after since upto) → IfOk r (λ stopped. IsTrue stopped → IsStopped new) → All (λ b. b < 256) bytes
     → IfOk r (λ stopped. MatchBool stopped
-    (StampTo (SourceRan program) (SourceEnded program true) bytes source (Captured new) before after since upto)
-    (StampTo (SourceRan program) (SourceRan program) bytes source (Captured new) before after since upto))
-capture_run (Ok true) program bytes source old new before after since upto is ran stopped small = rw is (capture_stops program bytes old new before after since upto (stopped refl) ran small)
-capture_run (Ok false) program bytes source old new before after since upto is ran stopped small = rw is (capture_to program bytes old new before after since upto ran small)
-capture_run (Err e) program bytes source old new before after since upto is ran stopped small = tt
+    (StampTo (SourceRan programs) (SourceEnded programs true) bytes source (Captured new) before after since upto)
+    (StampTo (SourceRan programs) (SourceRan programs) bytes source (Captured new) before after since upto))
+capture_run (Ok true) programs bytes source old new before after since upto is ran stopped small = rw is (capture_stops programs bytes old new before after since upto (stopped refl) ran small)
+capture_run (Ok false) programs bytes source old new before after since upto is ran stopped small = rw is (capture_to programs bytes old new before after since upto ran small)
+capture_run (Err e) programs bytes source old new before after since upto is ran stopped small = tt
 
-pub lines_finish : {E : Type 0} (r : Result Bool E) (program : List Insn) (source : PacketSource) (old new : LineFeed) (before after : List Outcome) → source ≡ Lines old
+pub lines_finish : {E : Type 0} (r : Result Bool E) (programs : Programs) (source : PacketSource) (old new : LineFeed) (before after : List Outcome) → source ≡ Lines old
     → IfOk r (λ stopped. MatchBool stopped
-    (RunsTo (LinesRan program) (LinesStopped program) [] [] old new before after)
-    (RunsTo (LinesRan program) (LinesEnded program) [] [] old new before after))
-    → IfOk r (λ stopped. (since : List PacketTime) → StampTo (SourceRan program) (SourceEnded program stopped) [] source (Lines new) before after since since)
-lines_finish (Ok true) program source old new before after is ran = λ since. rw is (plain_to (LinesRan program) (LinesStopped program) (SourceRan program) (SourceEnded program true) [] old new (Lines old) (Lines new) before after since (λ fed outcomes stamps has. has) (λ fed outcomes stamps has none. (has, none)) ran)
-lines_finish (Ok false) program source old new before after is ran = λ since. rw is (plain_to (LinesRan program) (LinesEnded program) (SourceRan program) (SourceEnded program false) [] old new (Lines old) (Lines new) before after since (λ fed outcomes stamps has. has) (λ fed outcomes stamps has none. (has, none)) ran)
-lines_finish (Err e) program source old new before after is ran = tt
+    (RunsTo (LinesRan programs) (LinesStopped programs) [] [] old new before after)
+    (RunsTo (LinesRan programs) (LinesEnded programs) [] [] old new before after))
+    → IfOk r (λ stopped. (since : List PacketTime) → StampTo (SourceRan programs) (SourceEnded programs stopped) [] source (Lines new) before after since since)
+lines_finish (Ok true) programs source old new before after is ran = λ since. rw is (plain_to (LinesRan programs) (LinesStopped programs) (SourceRan programs) (SourceEnded programs true) [] old new (Lines old) (Lines new) before after since (λ fed outcomes stamps has. has) (λ fed outcomes stamps has none. (has, none)) ran)
+lines_finish (Ok false) programs source old new before after is ran = λ since. rw is (plain_to (LinesRan programs) (LinesEnded programs) (SourceRan programs) (SourceEnded programs false) [] old new (Lines old) (Lines new) before after since (λ fed outcomes stamps has. has) (λ fed outcomes stamps has none. (has, none)) ran)
+lines_finish (Err e) programs source old new before after is ran = tt
 
-capture_ends : (program : List Insn) (run : CaptureRun) (outcomes : List Outcome) (since : List PacketTime) → StampTo (SourceRan program) (SourceEnded program false) [] (Captured run) (Captured run) outcomes outcomes since since
-capture_ends program run outcomes since = record {
+capture_ends : (programs : Programs) (run : CaptureRun) (outcomes : List Outcome) (since : List PacketTime) → StampTo (SourceRan programs) (SourceEnded programs false) [] (Captured run) (Captured run) outcomes outcomes since since
+capture_ends programs run outcomes since = record {
   more = [];
   times = [];
   pushed = sym (append-nil outcomes);
@@ -89,6 +89,6 @@ capture_ends program run outcomes since = record {
   runs = λ fed outcomes stamps has short. rw (append-nil fed, append-nil outcomes, append-nil stamps) has;
 }
 
-pub capture_finish : (program : List Insn) (source : PacketSource) (run : CaptureRun) (outcomes : List Outcome) → source ≡ Captured run
-    → (since : List PacketTime) → StampTo (SourceRan program) (SourceEnded program false) [] source source outcomes outcomes since since
-capture_finish program source run outcomes is since = rw is (capture_ends program run outcomes since)
+pub capture_finish : (programs : Programs) (source : PacketSource) (run : CaptureRun) (outcomes : List Outcome) → source ≡ Captured run
+    → (since : List PacketTime) → StampTo (SourceRan programs) (SourceEnded programs false) [] source source outcomes outcomes since since
+capture_finish programs source run outcomes is since = rw is (capture_ends programs run outcomes since)

@@ -1,6 +1,6 @@
 -- How many bytes were taken.
 use Rattle.std.proofs.Common.{ℕ, List, Option, Some, None, Bool, true, false, Result, Ok, Err, IfOk, arith}
-use Rattle.bpf_insn.specs.declared.insn.Insn.{Insn}
+use Rattle.console.specs.Programs.{Programs}
 use Rattle.filter_vm.specs.declared.machine.Outcome.{Outcome}
 use Rattle.capture_reader.specs.declared.entry.PacketTime.{PacketTime}
 use Rattle.console.specs.declared.capture_run.CaptureRun.{CaptureRun}
@@ -17,6 +17,6 @@ pub capture_taken : {R : Type 0} {remaining : R → Option (List ℕ)} (old new 
 capture_taken old new (Some c) gave = (gave.0, gave.1, omega (arith, gave.3))
 capture_taken old new None gave = (gave.0, gave.1, gave.3)
 
-pub run_taken : {R : Type 0} {remaining : R → Option (List ℕ)} (old new : Source R) (program : List Insn) (run : CaptureRun) (outcomes : List Outcome) (stamps : List PacketTime) (whole : Bool) → RunsInput remaining old new program run outcomes stamps whole → GetsAtMost remaining old new most_taken
-run_taken old new program run outcomes stamps true gave = (gave.0, gave.1, omega (arith, gave.3))
-run_taken old new program run outcomes stamps false gave = (gave.0, gave.1, gave.3)
+pub run_taken : {R : Type 0} {remaining : R → Option (List ℕ)} (old new : Source R) (programs : Programs) (run : CaptureRun) (outcomes : List Outcome) (stamps : List PacketTime) (whole : Bool) → RunsInput remaining old new programs run outcomes stamps whole → GetsAtMost remaining old new most_taken
+run_taken old new programs run outcomes stamps true gave = (gave.0, gave.1, omega (arith, gave.3))
+run_taken old new programs run outcomes stamps false gave = (gave.0, gave.1, gave.3)

@@ -8,7 +8,7 @@ use Rattle.console.specs.declared.form.PacketForm.{PacketForm}
 use Rattle.console.specs.declared.form.PacketForm.TheVariants.{Digits, Capture}
 
 abbrev pub is_capture : PacketForm → Bool
-is_capture Digits = false
+is_capture (Digits link) = false
 is_capture (Capture link) = true
 
 -- a link type is the one that is named, if one is

@@ -8,6 +8,7 @@ use Rattle.pcapng_reader.specs.declared.block.InterfaceDescription.{InterfaceDes
 use Rattle.capture_reader.specs.declared.entry.Entry.{Entry}
 use Rattle.capture_reader.specs.declared.entry.Entry.TheVariants.{Savefile, Section, Interface, Packet}
 use Rattle.capture_reader.specs.declared.entry.PacketInfo.{PacketInfo}
+use Rattle.capture_reader.specs.declared.entry.PacketTime.{PacketTime}
 use Rattle.capture_reader.specs.declared.fault.ReadFault.{ReadFault}
 use Rattle.capture_reader.specs.Entries.{EntryBytes}
 use Rattle.capture_reader.specs.Captures.{HasEntries}
@@ -17,6 +18,7 @@ use Rattle.engine_io.specs.declared.input.TheConstants.{INPUT_BYTES}
 use Rattle.engine_io.specs.declared.source.Source.{Source}
 use Rattle.console.specs.Choosing.{chosen}
 use Rattle.console.specs.Faults.{fault_status, fault_text}
+use Rattle.console.specs.Stamps.{stamp_text}
 use Rattle.engine_io.specs.Reading.{BeginsWith, IsInput, ShowsTooLong}
 
 abbrev pub order_name : Bool → List ℕ
@@ -52,17 +54,21 @@ digits (b ∷ bytes) = encode_lower (b ∷ bytes)
 abbrev pub interface_words : ℕ → PacketInfo → List ℕ
 interface_words interfaces info = if nat_lt 1 interfaces then codes " interface " ++ decimal info.interface else []
 
+-- when a packet was seen, where that is to be shown
+abbrev pub stamp_words : Bool → PacketTime → List ℕ
+stamp_words stamped time = if stamped then codes " " ++ stamp_text time else []
+
 -- the line for packet number n
-abbrev pub packet_line : ℕ → ℕ → PacketInfo → List ℕ → List ℕ
-packet_line n interfaces info bytes =
-    decimal n ++ interface_words interfaces info ++ codes " captured " ++ decimal (length bytes) ++ codes " original " ++ decimal info.original ++ codes " " ++ digits bytes ++ codes "\n"
+abbrev pub packet_line : Bool → ℕ → ℕ → PacketInfo → List ℕ → List ℕ
+packet_line stamped n interfaces info bytes =
+    decimal n ++ interface_words interfaces info ++ stamp_words stamped info.time ++ codes " captured " ++ decimal (length bytes) ++ codes " original " ++ decimal info.original ++ codes " " ++ digits bytes ++ codes "\n"
 
 -- the line for an entry, after so many packets, and so many interfaces of its section
-abbrev pub entry_line : ℕ → ℕ → Entry → List ℕ → List ℕ
-entry_line n interfaces (Savefile h) bytes = header_line h
-entry_line n interfaces (Section s) bytes = section_line s
-entry_line n interfaces (Interface i) bytes = interface_line interfaces i
-entry_line n interfaces (Packet info) bytes = packet_line (n + 1) interfaces info bytes
+abbrev pub entry_line : Bool → ℕ → ℕ → Entry → List ℕ → List ℕ
+entry_line stamped n interfaces (Savefile h) bytes = header_line h
+entry_line stamped n interfaces (Section s) bytes = section_line s
+entry_line stamped n interfaces (Interface i) bytes = interface_line interfaces i
+entry_line stamped n interfaces (Packet info) bytes = packet_line stamped (n + 1) interfaces info bytes
 
 abbrev pub packets_after : ℕ → Entry → ℕ
 packets_after n (Packet info) = n + 1
@@ -73,28 +79,28 @@ interfaces_after n (Section s) = 0
 interfaces_after n (Interface i) = n + 1
 interfaces_after n entry = n
 
-abbrev pub entry_lines : ℕ → ℕ → List EntryBytes → List ℕ
-entry_lines n interfaces [] = []
-entry_lines n interfaces (e ∷ entries) = entry_line n interfaces e.0 e.1 ++ entry_lines (packets_after n e.0) (interfaces_after interfaces e.0) entries
+abbrev pub entry_lines : Bool → ℕ → ℕ → List EntryBytes → List ℕ
+entry_lines stamped n interfaces [] = []
+entry_lines stamped n interfaces (e ∷ entries) = entry_line stamped n interfaces e.0 e.1 ++ entry_lines stamped (packets_after n e.0) (interfaces_after interfaces e.0) entries
 
 -- the lines for entries and a fault; of packets of one link type alone, if one is named
-abbrev pub dump_text : Option ℕ → List EntryBytes → Option ReadFault → List ℕ
-dump_text link entries fault = entry_lines 0 0 (chosen link entries) ++ fault_text fault
+abbrev pub dump_text : Option ℕ → Bool → List EntryBytes → Option ReadFault → List ℕ
+dump_text link stamped entries fault = entry_lines stamped 0 0 (chosen link entries) ++ fault_text fault
 
 -- what `dump` shows of an input, whose length has a limit
-abbrev pub ShowsDump : Option ℕ → List ℕ → ℕ → List ℕ → Type 0
-ShowsDump link input status text =
+abbrev pub ShowsDump : Option ℕ → Bool → List ℕ → ℕ → List ℕ → Type 0
+ShowsDump link stamped input status text =
     ((length input ≤ INPUT_BYTES) × (entries : List EntryBytes) × (fault : Option ReadFault)
-    × HasEntries input entries fault × (text ≡ dump_text link entries fault) × (status ≡ fault_status fault))
+    × HasEntries input entries fault × (text ≡ dump_text link stamped entries fault) × (status ≡ fault_status fault))
     ⊎ ((INPUT_BYTES < length input) × ShowsTooLong status text)
 
 -- text is nothing, or a front of what `dump` shows of the input
-abbrev pub ShowsDumpPart : {R : Type 0} → Option ℕ → (R → Option (List ℕ)) → Source R → Source R → List ℕ → Type 0
-ShowsDumpPart link remaining old new text = (text ≡ [])
-    ⊎ ((input : List ℕ) × (status : ℕ) × (whole : List ℕ) × IsInput remaining old new input × ShowsDump link input status whole × BeginsWith text whole)
+abbrev pub ShowsDumpPart : {R : Type 0} → Option ℕ → Bool → (R → Option (List ℕ)) → Source R → Source R → List ℕ → Type 0
+ShowsDumpPart link stamped remaining old new text = (text ≡ [])
+    ⊎ ((input : List ℕ) × (status : ℕ) × (whole : List ℕ) × IsInput remaining old new input × ShowsDump link stamped input status whole × BeginsWith text whole)
 
 -- the line for an entry was printed, if that is shown. No public clause cites this.
-pub record PrintsEntry (link : Option ℕ) (kept : KeptEntry) (old new : Place) (before after : List ℕ) : Type 0 where
+pub record PrintsEntry (link : Option ℕ) (stamped : Bool) (kept : KeptEntry) (old new : Place) (before after : List ℕ) : Type 0 where
   pub shown : List ℕ
   pub printed : after ≡ before ++ shown
-  pub rest : (more : List EntryBytes) → entry_lines old.packets old.interfaces (chosen link ((kept.entry, kept.bytes) ∷ more)) ≡ shown ++ entry_lines new.packets new.interfaces (chosen link more)
+  pub rest : (more : List EntryBytes) → entry_lines stamped old.packets old.interfaces (chosen link ((kept.entry, kept.bytes) ∷ more)) ≡ shown ++ entry_lines stamped new.packets new.interfaces (chosen link more)

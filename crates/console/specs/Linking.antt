@@ -4,13 +4,13 @@ use Rattle.std.specs.Prelude.{◌≡◌, ◌≢◌, ℕ, List, [], ◌∷◌, �
 use Rattle.std.specs.List.{Contains}
 use Rattle.capture_reader.specs.declared.entry.Entry.{Entry}
 use Rattle.capture_reader.specs.declared.entry.Entry.TheVariants.{Savefile, Interface}
-use Rattle.capture_reader.specs.Entries.{EntryBytes}
+use Rattle.capture_reader.specs.Entries.{EntryBytes, savefile_link}
 use Rattle.console.specs.declared.link_types.LinkTypes.{LinkTypes}
 use Rattle.console.specs.declared.link_types.LinkTypes.TheVariants.{None, One, Several}
 
 -- the link type of an interface; a savefile is one interface
 abbrev pub entry_links : Entry → List ℕ
-entry_links (Savefile header) = header.network ∷ []
+entry_links (Savefile header) = savefile_link header ∷ []
 entry_links (Interface interface) = interface.link ∷ []
 entry_links entry = []
 

@@ -3,24 +3,24 @@ use Rattle.std.specs.Prelude.{◌≡◌, ℕ, ◌+◌, ◌<◌, ◌⊎◌, List,
 use Rattle.std.specs.List.{AllZip}
 use Rattle.std.specs.Fmt.{decimal}
 use Rattle.std.specs.Str.Lines.{lines}
-use Rattle.bpf_insn.specs.declared.insn.Insn.{Insn}
 use Rattle.filter_vm.specs.declared.machine.Outcome.{Outcome}
-use Rattle.pcap_reader.specs.declared.capture.CapturedPacket.{CapturedPacket}
 use Rattle.capture_reader.specs.declared.fault.ReadFault.{ReadFault}
-use Rattle.capture_reader.specs.Entries.{EntryBytes, packets_in}
+use Rattle.capture_reader.specs.Entries.{EntryBytes}
 use Rattle.capture_reader.specs.Captures.{HasEntries}
 use Rattle.console.specs.declared.form.PacketForm.{PacketForm}
 use Rattle.console.specs.declared.form.PacketForm.TheVariants.{Digits, Capture}
 use Rattle.console.specs.Choosing.{chosen, is_capture}
 use Rattle.console.specs.declared.ending.Ending.{Ending}
-use Rattle.console.specs.declared.ending.Ending.TheVariants.{Done, BadLine, Fault}
 use Rattle.capture_reader.specs.declared.entry.PacketTime.{PacketTime}
+use Rattle.console.specs.declared.tally.Finished.{Finished}
 use Rattle.console.specs.declared.tally.Tally.{Tally}
 use Rattle.console.specs.declared.view.View.{View}
 use Rattle.console.specs.declared.view.View.TheVariants.{Lines, Numbers, Count, Quiet}
-use Rattle.console.specs.Code.{IsGoodCode, ShowsBadCode}
-use Rattle.console.specs.Faults.{fault_line, fault_status, fault_text}
-use Rattle.console.specs.Matching.{Answers, AnswersCaptured, Stops, bad_line, outcome_line}
+use Rattle.console.specs.declared.filter.CodeFault.{CodeFault}
+use Rattle.console.specs.Expressions.{IsFilter, ShowsBadFilter, explanation_of}
+use Rattle.console.specs.Programs.{Programs}
+use Rattle.console.specs.Refusing.{AnswersLinked, LinkedPacket, linked_in, refused_in, served}
+use Rattle.console.specs.Matching.{Answers, StopsBy, capture_ending, ending_status, ending_stop, ending_text, outcome_line}
 use Rattle.engine_io.specs.Reading.{BeginsWith}
 use Rattle.console.specs.Stamps.{AreStamps, stamp_text}
 
@@ -65,32 +65,21 @@ shown_after Numbers some all = []
 shown_after Count some all = tally_line some all
 shown_after Quiet some all = []
 
--- the last line, if there is one: a complaint about an input line, or a capture's fault
-abbrev pub ending_text : Ending → List ℕ
-ending_text Done = []
-ending_text (BadLine number) = bad_line number
-ending_text (Fault fault) = fault_line fault
-
-abbrev pub ending_status : Ending → ℕ
-ending_status Done = 0
-ending_status (BadLine number) = 1
-ending_status (Fault fault) = 1
-
--- the packets of bytes, in order, ended with these outcomes, and this line and status come after them
-abbrev pub RanAll : List Insn → PacketForm → List ℕ → List Outcome → ℕ → List ℕ → Type 0
-RanAll program Digits input outcomes status ending =
-    (good : List (List ℕ)) × AllZip (Answers program) good outcomes × Stops (lines input) good status ending
-RanAll program (Capture link) input outcomes status ending =
-    (entries : List EntryBytes) × (fault : Option ReadFault)
-    × HasEntries input entries fault × AllZip (AnswersCaptured program) (packets_in (chosen link entries)) outcomes × (status ≡ fault_status fault) × (ending ≡ fault_text fault)
+-- the packets of bytes, in order, ended with these outcomes, up to one that CODE has no program for, and this comes after them
+abbrev pub RanAll : Programs → PacketForm → List ℕ → List Outcome → Ending → Type 0
+RanAll programs (Digits link) input outcomes ending =
+    (good : List (List ℕ)) × AllZip (Answers programs link) good outcomes × StopsBy programs link (lines input) good ending
+RanAll programs (Capture link) input outcomes ending = (entries : List EntryBytes) × (fault : Option ReadFault) × HasEntries input entries fault
+    × AllZip (AnswersLinked programs) (linked_in (served programs (chosen link entries))) outcomes
+    × (ending ≡ capture_ending (refused_in programs (chosen link entries)) fault)
 
 -- the first packets of bytes ended with these outcomes
-abbrev pub RanFirst : List Insn → PacketForm → List ℕ → List Outcome → Type 0
-RanFirst program Digits input outcomes =
-    (good : List (List ℕ)) × (left : List (List ℕ)) × (lines input ≡ good ++ left) × AllZip (Answers program) good outcomes
-RanFirst program (Capture link) input outcomes =
+abbrev pub RanFirst : Programs → PacketForm → List ℕ → List Outcome → Type 0
+RanFirst programs (Digits link) input outcomes =
+    (good : List (List ℕ)) × (left : List (List ℕ)) × (lines input ≡ good ++ left) × AllZip (Answers programs link) good outcomes
+RanFirst programs (Capture link) input outcomes =
     (entries : List EntryBytes) × (fault : Option ReadFault) × HasEntries input entries fault
-    × (good : List CapturedPacket) × (left : List CapturedPacket) × (packets_in (chosen link entries) ≡ good ++ left) × AllZip (AnswersCaptured program) good outcomes
+    × (good : List LinkedPacket) × (left : List LinkedPacket) × (linked_in (chosen link entries) ≡ good ++ left) × AllZip (AnswersLinked programs) good outcomes
 
 -- the time stamps that a view shows of so many packets: those of a capture, where numbers are shown
 abbrev pub AreShown : Bool → PacketForm → List ℕ → ℕ → List PacketTime → Type 0
@@ -101,20 +90,23 @@ abbrev pub shows_stamps : View → PacketForm → Bool
 shows_stamps Numbers form = is_capture form
 shows_stamps view form = false
 
--- a text and a status of outcomes and of the line after them
-abbrev pub ShowsOutcomes : View → List PacketTime → List Outcome → ℕ → List ℕ → ℕ → List ℕ → Type 0
-ShowsOutcomes view stamps outcomes ended ending status text =
-    (status ≡ ended) × (text ≡ shown_at_once view 0 stamps outcomes ++ (shown_after view (accepted outcomes) (length outcomes) ++ ending))
+-- the status and the text of outcomes and of what comes after them, and the fault of CODE that was met
+abbrev pub ShowsOutcomes : View → List PacketTime → List Outcome → Ending → ℕ → List ℕ → Option CodeFault → Type 0
+ShowsOutcomes view stamps outcomes ending status text stop = (status ≡ ending_status ending)
+    × (text ≡ shown_at_once view 0 stamps outcomes ++ (shown_after view (accepted outcomes) (length outcomes) ++ ending_text ending))
+    × (stop ≡ ending_stop ending)
 
 -- no packet was accepted: the status is 4 where the input is whole, and else 1
 abbrev pub IsNoneStatus : ℕ → ℕ → Type 0
 IsNoneStatus ended status = ((ended ≡ 0) × (status ≡ 4)) ⊎ ((ended ≡ 1) × (status ≡ 1))
 
--- the line and the status after the last packet, where so many were accepted, of so many. `Quiet` has only a status
-abbrev pub ShowsEnd : View → ℕ → ℕ → Ending → ℕ → List ℕ → Type 0
-ShowsEnd Quiet some all ending status text =
-    (text ≡ []) × (((0 < some) × (status ≡ 0)) ⊎ ((some ≡ 0) × IsNoneStatus (ending_status ending) status))
-ShowsEnd view some all ending status text = (status ≡ ending_status ending) × (text ≡ shown_after view some all ++ ending_text ending)
+-- the line and the status after the last packet, where so many were accepted, of so many, and the fault of CODE that was met. `Quiet` has only
+-- a status, and a fault where no packet was accepted
+abbrev pub ShowsEnd : View → ℕ → ℕ → Ending → List ℕ → Finished → Type 0
+ShowsEnd Quiet some all ending text f = (text ≡ [])
+    × (((0 < some) × (f.status ≡ 0) × (f.stop ≡ None)) ⊎ ((some ≡ 0) × IsNoneStatus (ending_status ending) f.status × (f.stop ≡ ending_stop ending)))
+ShowsEnd view some all ending text f =
+    (text ≡ shown_after view some all ++ ending_text ending) × (f.status ≡ ending_status ending) × (f.stop ≡ ending_stop ending)
 
 -- under this view the command ends at the first packet that is accepted, with status 0
 abbrev pub IsFound : View → ℕ → Type 0
@@ -125,35 +117,37 @@ abbrev pub HasCounted : View → Tally → List Outcome → Type 0
 HasCounted view tally outcomes = (tally.view ≡ view) × (tally.total ≡ length outcomes) × (tally.accepted ≡ accepted outcomes)
 
 -- what is shown of bytes under a view. `Quiet`: nothing, and status 0 where one of the first packets was accepted, whatever follows
-abbrev pub ShowsView : View → List Insn → PacketForm → List ℕ → ℕ → List ℕ → Type 0
-ShowsView Quiet program form input status text = (text ≡ [])
-    × (((outcomes : List Outcome) × RanFirst program form input outcomes × (0 < accepted outcomes) × (status ≡ 0))
-    ⊎ ((outcomes : List Outcome) × (ended : ℕ) × (ending : List ℕ) × RanAll program form input outcomes ended ending
-    × (accepted outcomes ≡ 0) × IsNoneStatus ended status))
-ShowsView view program form input status text =
-    (outcomes : List Outcome) × (ended : ℕ) × (ending : List ℕ) × RanAll program form input outcomes ended ending
-    × (stamps : List PacketTime) × AreShown (shows_stamps view form) form input (length outcomes) stamps × ShowsOutcomes view stamps outcomes ended ending status text
+abbrev pub ShowsView : View → Programs → PacketForm → List ℕ → ℕ → List ℕ → Option CodeFault → Type 0
+ShowsView Quiet programs form input status text stop = (text ≡ [])
+    × (((outcomes : List Outcome) × RanFirst programs form input outcomes × (0 < accepted outcomes) × (status ≡ 0) × (stop ≡ None))
+    ⊎ ((outcomes : List Outcome) × (ending : Ending) × RanAll programs form input outcomes ending
+    × (accepted outcomes ≡ 0) × IsNoneStatus (ending_status ending) status × (stop ≡ ending_stop ending)))
+ShowsView view programs form input status text stop =
+    (outcomes : List Outcome) × (ending : Ending) × RanAll programs form input outcomes ending
+    × (stamps : List PacketTime) × AreShown (shows_stamps view form) form input (length outcomes) stamps × ShowsOutcomes view stamps outcomes ending status text stop
 
 -- text is a front of what is shown at once of the first packets of bytes, or of all that is shown
-abbrev pub ShowsViewPart : View → List Insn → PacketForm → List ℕ → List ℕ → Type 0
-ShowsViewPart view program form input text =
-    ((outcomes : List Outcome) × RanFirst program form input outcomes
+abbrev pub ShowsViewPart : View → Programs → PacketForm → List ℕ → List ℕ → Type 0
+ShowsViewPart view programs form input text =
+    ((outcomes : List Outcome) × RanFirst programs form input outcomes
     × (stamps : List PacketTime) × AreShown (shows_stamps view form) form input (length outcomes) stamps × BeginsWith text (shown_at_once view 0 stamps outcomes))
-    ⊎ ((status : ℕ) × (whole : List ℕ) × ShowsView view program form input status whole × BeginsWith text whole)
+    ⊎ ((status : ℕ) × (whole : List ℕ) × (stop : Option CodeFault) × ShowsView view programs form input status whole stop × BeginsWith text whole)
 
 -- a line, where the view shows any
 abbrev pub heard : View → List ℕ → List ℕ
 heard Quiet line = []
 heard view line = line
 
--- what a view shows of a code that is no program, or that is refused
-abbrev pub ShowsViewCode : View → List ℕ → List ℕ → Type 0
-ShowsViewCode view code text = (line : List ℕ) × ShowsBadCode code line × (text ≡ heard view line)
+-- what a view shows of a code that gives nothing to run, and what it says of it
+abbrev pub ShowsViewCode : View → List ℕ → List ℕ → List ℕ → Type 0
+ShowsViewCode view code text words = (line : List ℕ) × ShowsBadFilter code line words × (text ≡ heard view line)
 
--- what a view shows of a code and of the bytes that were read
-abbrev pub ViewShows : View → List ℕ → PacketForm → List ℕ → ℕ → List ℕ → Type 0
-ViewShows view code form input status text = (program : List Insn) × IsGoodCode code program × ShowsView view program form input status text
+-- what a view shows of a code and of the bytes that were read, and what it says of a fault of the code that a packet met
+abbrev pub ViewShows : View → List ℕ → ℕ → PacketForm → List ℕ → ℕ → List ℕ → List ℕ → Type 0
+ViewShows view code accept form input status text words =
+    (programs : Programs) × IsFilter code accept programs
+    × (stop : Option CodeFault) × ShowsView view programs form input status text stop × (words ≡ explanation_of code stop)
 
 -- and what it has shown where it failed
-abbrev pub ViewLeaves : View → List ℕ → PacketForm → List ℕ → List ℕ → Type 0
-ViewLeaves view code form input text = (program : List Insn) × IsGoodCode code program × ShowsViewPart view program form input text
+abbrev pub ViewLeaves : View → List ℕ → ℕ → PacketForm → List ℕ → List ℕ → Type 0
+ViewLeaves view code accept form input text = (programs : Programs) × IsFilter code accept programs × ShowsViewPart view programs form input text

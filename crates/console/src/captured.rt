@@ -139,7 +139,7 @@ fn keep_found(
 }
 
 /// The fault of a capture that ends where it was taken, if it has one.
-fn fault_of(feed: &CaptureFeed) -> Result<Option<ReadFault>, AllocError>
+pub(crate) fn fault_of(feed: &CaptureFeed) -> Result<Option<ReadFault>, AllocError>
     ensures { IfOk result (EndsAs feed.now) }
 {
     match feed.ending() {

@@ -33,7 +33,7 @@ pub fn read_predecoded(alloc: Global, code: &[u8]) -> Result<Result<Predecoded, 
 }
 
 /// The line that says why a text spells no program.
-fn code_fault(alloc: Global, fault: TextFault) -> Result<String, AllocError>
+pub(crate) fn code_fault(alloc: Global, fault: TextFault) -> Result<String, AllocError>
     ensures { IfOk result (λ line. (fault ≢ TextFault.NoMemory) × (string_bytes line ≡ code_line fault)) }
 {
     let mut line = String::from_str(alloc, "code ")?;

@@ -8,12 +8,13 @@ ghost use Rattle.console.specs.Choosing.{is_chosen};
 ghost use Rattle.engine_io.specs.Devices.{EndsEarly, EndsWell, IsFresh, StopsWriting, Writes};
 ghost use Rattle.console.specs.Faults.{fault_status};
 ghost use Rattle.engine_io.specs.Reading.{IsEngineFault, IsPrintFault};
-ghost use Rattle.console.specs.Dumping.{PrintsEntry, ShowsDump, ShowsDumpPart, digits, dump_text, entry_line, header_line, interface_line, interface_words, interfaces_after, packet_line, packets_after, resolution_text, section_line};
+ghost use Rattle.console.specs.Dumping.{PrintsEntry, ShowsDump, ShowsDumpPart, digits, dump_text, entry_line, header_line, interface_line, interface_words, interfaces_after, packet_line, packets_after, resolution_text, section_line, stamp_words};
 
 use crate::capture_fault::write_ending;
 use crate::capture_run::is_link;
 use crate::captured::{KeptEntry, read_entries};
-use capture_reader::{Entry, PacketInfo, ReadFault};
+use crate::stamp::push_time;
+use capture_reader::{Entry, PacketInfo, PacketTime, ReadFault};
 use engine_io::{BLOCK, EngineFault, Sink, Source, refuse_long, write_bytes};
 use itoa::Buffer;
 use pcap_reader::Header;
@@ -28,7 +29,7 @@ use std::io::{Read, Write};
 /// is `pcapng little|big version 1.N`, and the one for interface N of it, from 0,
 /// `interface N snaplen N network N resolution 10^-N|2^-N offset N`. A packet's, counted from 1, is
 /// `N captured C original O HEX`, with `-` for no bytes, and ` interface I` after the number where its section has described
-/// several before it. What stands before a fault of the capture is printed, then `fault NAME` with the fault's offset where it
+/// several before it; then, where stamps are asked for, a blank and the time stamp, as `match --number` prints it. What stands before a fault of the capture is printed, then `fault NAME` with the fault's offset where it
 /// has one, and the status is 1. Of an input of more than 64 MiB only `fault InputTooLong` is printed, status 1.
 ///
 /// The capture is read in pieces and its packets are kept; the input as a whole is not. Answers `ReadFailed`, with nothing
@@ -36,43 +37,45 @@ use std::io::{Read, Write};
 pub fn run_dump<R: Read, W: Write>(
     alloc: Global,
     link: Option<u32>,
+    stamped: bool,
     reader: &mut Source<R>,
     writer: &mut Sink<W>,
 ) -> Result<u8, EngineFault>
     requires fresh { IsFresh reader.old INPUT_READS }
     requires good { writer.old.failed ≡ false }
     ensures shown { IfOk result (λ status. (text : List ℕ) × Writes W.contents writer.old writer.new text
-        × ((input : List ℕ) × IsInput R.remaining reader.old reader.new input × ShowsDump link input status text)) }
+        × ((input : List ℕ) × IsInput R.remaining reader.old reader.new input × ShowsDump link stamped input status text)) }
     ensures taken { IfOk result (λ _. GetsAtMost R.remaining reader.old reader.new most_taken) }
-    ensures only { (input : List ℕ) → AreBytes input → ShowsOne (ShowsDump link input) }
+    ensures only { (input : List ℕ) → AreBytes input → ShowsOne (ShowsDump link stamped input) }
     ensures fault { IfErr result IsEngineFault }
     ensures well { IfOk result (λ _. EndsWell reader.new writer.new INPUT_BYTES) }
     ensures cause { IfErr result (EndsEarly reader.new writer.new) }
     ensures most { reader.new.taken ≤ most_taken }
     ensures silent { IsErrOf result EngineFault.ReadFailed → writer.new ≡ writer.old }
     ensures part { IsErrOf result EngineFault.NoMemory → (text : List ℕ)
-        × ShowsDumpPart link R.remaining reader.old reader.new text × Writes W.contents writer.old writer.new text }
+        × ShowsDumpPart link stamped R.remaining reader.old reader.new text × Writes W.contents writer.old writer.new text }
 {
     let Some(captured) = read_entries(alloc, reader)? else {
         return refuse_long(writer);
     };
     let entries = captured.entries.as_slice();
-    dump(alloc, link, entries, captured.fault, writer)
+    dump(alloc, link, stamped, entries, captured.fault, writer)
 }
 
 /// Prints entries and a fault.
 fn dump<W: Write>(
     alloc: Global,
     link: Option<u32>,
+    stamped: bool,
     entries: &[KeptEntry],
     fault: Option<ReadFault>,
     writer: &mut Sink<W>,
 ) -> Result<u8, EngineFault>
     requires { writer.old.failed ≡ false }
-    ensures shown { IfOk result (λ status. Writes W.contents writer.old writer.new (dump_text link (entries_of entries.now) fault)
+    ensures shown { IfOk result (λ status. Writes W.contents writer.old writer.new (dump_text link stamped (entries_of entries.now) fault)
         × (status ≡ fault_status fault)) }
     ensures part { IsErrOf result EngineFault.NoMemory → (text : List ℕ)
-        × BeginsWith text (dump_text link (entries_of entries.now) fault) × Writes W.contents writer.old writer.new text }
+        × BeginsWith text (dump_text link stamped (entries_of entries.now) fault) × Writes W.contents writer.old writer.new text }
     ensures fault { IfErr result IsPrintFault }
     ensures good { OnOk result (writer.new.failed ≡ false) }
     ensures cause { IfErr result (StopsWriting writer.new) }
@@ -85,7 +88,7 @@ fn dump<W: Write>(
     };
     while let Some((kept, more)) = rest.split_first() {
         rest = more;
-        push_chosen(alloc, link, &mut text, &mut place, kept)?;
+        push_chosen(alloc, link, stamped, &mut text, &mut place, kept)?;
         if text.len() >= BLOCK {
             write_bytes(writer, text.as_slice())?;
             text.clear();
@@ -98,12 +101,12 @@ fn dump<W: Write>(
 /// How many packets and how many interfaces of the section come before an entry.
 #[derive(Clone, Copy, Debug)]
 pub struct Place {
-    packets: u64,
-    interfaces: u64,
+    pub packets: u64,
+    pub interfaces: u64,
 }
 
 /// Whether an entry is shown: of packets those of the link type that is named, if one is.
-fn is_chosen(link: Option<u32>, entry: Entry) -> bool
+pub(crate) fn is_chosen(link: Option<u32>, entry: Entry) -> bool
     ensures { result ≡ is_chosen link entry }
 {
     match entry {
@@ -116,30 +119,40 @@ fn is_chosen(link: Option<u32>, entry: Entry) -> bool
 fn push_chosen(
     alloc: Global,
     link: Option<u32>,
+    stamped: bool,
     text: &mut Vec<u8>,
     place: &mut Place,
     kept: &KeptEntry,
 ) -> Result<(), AllocError>
-    ensures { OnOk result (PrintsEntry link kept.now place.old place.new text.old.items text.new.items) }
+    ensures { OnOk result (PrintsEntry link stamped kept.now place.old place.new text.old.items text.new.items) }
 {
     if is_chosen(link, kept.entry) {
-        return push_entry(alloc, text, place, kept);
+        return push_entry(
+            alloc,
+            stamped,
+            text,
+            place,
+            kept.entry,
+            kept.bytes.as_slice(),
+        );
     }
     Ok(())
 }
 
 /// Prints the line for an entry, and counts it. 2^64 entries are refused as memory is.
-fn push_entry(
+pub(crate) fn push_entry(
     alloc: Global,
+    stamped: bool,
     text: &mut Vec<u8>,
     place: &mut Place,
-    kept: &KeptEntry,
+    entry: Entry,
+    bytes: &[u8],
 ) -> Result<(), AllocError>
-    ensures printed { OnOk result (text.new.items ≡ text.old.items ++ entry_line place.old.packets place.old.interfaces kept.now.entry kept.now.bytes) }
-    ensures packets { OnOk result (place.new.packets ≡ packets_after place.old.packets kept.now.entry) }
-    ensures interfaces { OnOk result (place.new.interfaces ≡ interfaces_after place.old.interfaces kept.now.entry) }
+    ensures printed { OnOk result (text.new.items ≡ text.old.items ++ entry_line stamped place.old.packets place.old.interfaces entry bytes.now) }
+    ensures packets { OnOk result (place.new.packets ≡ packets_after place.old.packets entry) }
+    ensures interfaces { OnOk result (place.new.interfaces ≡ interfaces_after place.old.interfaces entry) }
 {
-    match kept.entry {
+    match entry {
         Entry::Savefile(header) => push_line(text, header_text(alloc, header)?.as_str()),
         Entry::Section(section) => {
             place.interfaces = 0;
@@ -152,7 +165,7 @@ fn push_entry(
         }
         Entry::Packet(info) => {
             place.packets = place.packets.checked_add(1).ok_or(AllocError)?;
-            push_packet(text, *place, info, kept.bytes.as_slice())
+            push_packet(alloc, stamped, text, *place, info, bytes)
         }
     }
 }
@@ -221,16 +234,19 @@ fn push_resolution(text: &mut String, resolution: u8) -> Result<(), AllocError>
 
 /// Prints the line for the last packet that was counted.
 fn push_packet(
+    alloc: Global,
+    stamped: bool,
     text: &mut Vec<u8>,
     place: Place,
     info: PacketInfo,
     bytes: &[u8],
 ) -> Result<(), AllocError>
-    ensures { OnOk result (text.new.items ≡ text.old.items ++ packet_line place.packets place.interfaces info bytes.now) }
+    ensures { OnOk result (text.new.items ≡ text.old.items ++ packet_line stamped place.packets place.interfaces info bytes.now) }
 {
     let mut decimal = Buffer::new();
     text.extend_from_slice(decimal.format(place.packets).as_bytes())?;
     push_interface(text, place.interfaces, info)?;
+    push_stamp(alloc, stamped, text, info.time)?;
     text.extend_from_slice(b" captured ")?;
     text.extend_from_slice(decimal.format(bytes.len()).as_bytes())?;
     text.extend_from_slice(b" original ")?;
@@ -251,6 +267,23 @@ fn push_interface(text: &mut Vec<u8>, interfaces: u64, info: PacketInfo) -> Resu
     let mut decimal = Buffer::new();
     text.extend_from_slice(b" interface ")?;
     text.extend_from_slice(decimal.format(info.interface).as_bytes())
+}
+
+/// Prints when a packet was seen, where that is to be shown.
+fn push_stamp(
+    alloc: Global,
+    stamped: bool,
+    text: &mut Vec<u8>,
+    time: PacketTime,
+) -> Result<(), AllocError>
+    ensures { OnOk result (text.new.items ≡ text.old.items ++ stamp_words stamped time) }
+{
+    if !stamped {
+        return Ok(());
+    }
+    let mut stamp = String::from_str(alloc, " ")?;
+    push_time(&mut stamp, time)?;
+    push_line(text, stamp.as_str())
 }
 
 /// Prints captured bytes in hexadecimal digits.

@@ -6,9 +6,13 @@ mod capture_run;
 mod captured;
 mod checking;
 mod code;
+mod code_fault;
+mod dump_stream;
 mod dumping;
 mod ending;
+mod expression;
 mod fault_words;
+mod filter;
 mod form;
 mod hexadecimal;
 mod line_feed;
@@ -26,13 +30,17 @@ mod tally;
 mod view;
 
 pub use capture_run::is_link;
-pub use checking::{fault_line, run_check};
+pub use checking::{CheckInput, fault_line, read_program, run_check};
 pub use code::read_code;
+pub use code_fault::{push_code_fault, push_explanation};
+pub use dump_stream::run_dump_stream;
 pub use dumping::run_dump;
+pub use expression::{BadCode, is_expression, read_filter};
 pub use fault_words::{
     name_of_asm_fault, push_capture_words, push_code_words, push_read_words, push_refusal_words,
 };
-pub use form::PacketForm;
+pub use filter::{CodeFault, Filter, LinkPrograms};
+pub use form::{ETHERNET, PacketForm};
 pub use hexadecimal::decode;
 pub use lines::first_line;
 pub use link_types::LinkTypes;

@@ -1,18 +1,17 @@
 //! Lines of hexadecimal digits that come in pieces.
 
-ghost use Rattle.std.specs.Prelude.{◌≡◌, ◌+◌, ◌<◌, ◌≤◌, ◌++◌, ◌∷◌, ◌^◌, [], List, length, IfOk, OnOk, IsErr, true, false};
+ghost use Rattle.std.specs.Prelude.{◌≡◌, ◌+◌, ◌<◌, ◌≤◌, ◌++◌, ◌∷◌, ◌^◌, [], List, length, IfOk, OnOk, true, false};
 ghost use Rattle.std.specs.Bool.{MatchBool};
 ghost use Rattle.std.specs.Str.Lines.{strip_carriage_return};
-ghost use Rattle.hex.specs.Hex.{decode_of};
-ghost use Rattle.bpf_insn.specs.declared.insn.Insn.{Insn};
 ghost use Rattle.filter_vm.specs.declared.machine.Outcome.{Outcome as Ended};
-ghost use Rattle.console.specs.Matching.{Answers};
+ghost use Rattle.console.specs.Matching.{Answers, IsNotRun};
+ghost use Rattle.console.specs.Programs.{Programs, programs_of};
 ghost use Rattle.console.specs.Running.{RunsTo};
 ghost use Rattle.console.specs.Streaming.{LinesEnded, LinesRan, LinesStopped};
 
 use crate::lines::{newline_at, without_return};
 use crate::match_lines::outcome_of;
-use filter_predecode::Predecoded;
+use crate::{CodeFault, Filter};
 use filter_vm::Outcome;
 use std::alloc::{AllocError, Global};
 
@@ -28,17 +27,24 @@ pub struct LineFeed {
     packet: Vec<u8>,
     /// How many lines spelt a packet.
     number: u64,
+    /// The link type of the packets.
+    link: u32,
+    /// The fault of CODE that a packet met.
+    refused: Option<CodeFault>,
 }
 
 impl LineFeed {
-    /// A feed that was fed nothing. Takes no memory.
-    pub fn new(alloc: Global) -> LineFeed
-        ensures { (program : List Insn) → LinesRan program [] result [] }
+    /// A feed that was fed nothing, of packets of this link type. Takes no memory.
+    pub fn new(alloc: Global, link: u32) -> LineFeed
+        ensures ran { (programs : Programs) → LinesRan programs [] result [] }
+        ensures link { result.link ≡ link }
     {
         LineFeed {
             part: Vec::new(alloc),
             packet: Vec::new(alloc),
             number: 0,
+            link,
+            refused: None,
         }
     }
 
@@ -49,22 +55,30 @@ impl LineFeed {
         self.number
     }
 
-    /// Runs the filter on the packet of each line that ends in a piece, up to a line that spells none, and appends the
+    /// The fault of CODE that a packet met, if one did.
+    pub fn refused(&self) -> Option<CodeFault>
+        ensures { result ≡ self.now.refused }
+    {
+        self.refused
+    }
+
+    /// Runs the filter on the packet of each line that ends in a piece, up to a line that isn't run, and appends the
     /// outcomes. True where there is such a line. A line of 2^32 bytes or more is refused as memory is.
     pub fn run_piece(
         &mut self,
-        program: &Predecoded,
+        filter: &Filter,
         piece: &[u8],
         outcomes: &mut Vec<Outcome>,
     ) -> Result<bool, AllocError>
         requires { length piece.now ≤ 65536 }
-        ensures { IfOk result (λ stopped. MatchBool stopped
-            (RunsTo (LinesRan program.now) (LinesStopped program.now) piece.now [] self.old self.new outcomes.old.items outcomes.new.items)
-            (RunsTo (LinesRan program.now) (LinesRan program.now) piece.now [] self.old self.new outcomes.old.items outcomes.new.items)) }
+        ensures runs { IfOk result (λ stopped. MatchBool stopped
+            (RunsTo (LinesRan (programs_of filter.now)) (LinesStopped (programs_of filter.now)) piece.now [] self.old self.new outcomes.old.items outcomes.new.items)
+            (RunsTo (LinesRan (programs_of filter.now)) (LinesRan (programs_of filter.now)) piece.now [] self.old self.new outcomes.old.items outcomes.new.items)) }
+        ensures link { self.new.link ≡ self.old.link }
     {
         let mut rest = piece;
         while let Some(end) = newline_at(rest) {
-            if !self.run_line(program, &rest[..end], outcomes)? {
+            if !self.run_line(filter, &rest[..end], outcomes)? {
                 return Ok(true);
             }
             rest = &rest[end + 1..];
@@ -74,15 +88,16 @@ impl LineFeed {
     }
 
     /// Runs the filter on the packet of the last line, which has no end, and appends the outcome. True where there is such a
-    /// line and it spells no packet.
+    /// line and it isn't run.
     pub fn finish(
         &mut self,
-        program: &Predecoded,
+        filter: &Filter,
         outcomes: &mut Vec<Outcome>,
     ) -> Result<bool, AllocError>
-        ensures { IfOk result (λ stopped. MatchBool stopped
-            (RunsTo (LinesRan program.now) (LinesStopped program.now) [] [] self.old self.new outcomes.old.items outcomes.new.items)
-            (RunsTo (LinesRan program.now) (LinesEnded program.now) [] [] self.old self.new outcomes.old.items outcomes.new.items)) }
+        ensures runs { IfOk result (λ stopped. MatchBool stopped
+            (RunsTo (LinesRan (programs_of filter.now)) (LinesStopped (programs_of filter.now)) [] [] self.old self.new outcomes.old.items outcomes.new.items)
+            (RunsTo (LinesRan (programs_of filter.now)) (LinesEnded (programs_of filter.now)) [] [] self.old self.new outcomes.old.items outcomes.new.items)) }
+        ensures link { self.new.link ≡ self.old.link }
     {
         if self.part.is_empty() {
             return Ok(false);
@@ -90,48 +105,55 @@ impl LineFeed {
         if self.part.len() > MOST_OF_A_LINE {
             return Err(AllocError);
         }
-        match outcome_of(program, self.part.as_slice(), &mut self.packet)? {
-            Some(outcome) => {
+        match outcome_of(filter, self.link, self.part.as_slice(), &mut self.packet)? {
+            Ok(outcome) => {
                 outcomes.push(outcome)?;
                 Ok(false)
             }
-            None => Ok(true),
+            Err(stop) => {
+                self.refused = stop;
+                Ok(true)
+            }
         }
     }
 
     /// Runs the filter on the packet that a line spells, whose last bytes these are, and appends the outcome. False where it
-    /// spells none.
+    /// isn't run.
     fn run_line(
         &mut self,
-        program: &Predecoded,
+        filter: &Filter,
         last: &[u8],
         outcomes: &mut Vec<Outcome>,
     ) -> Result<bool, AllocError>
         requires { length last.now ≤ 65536 }
         ensures ran { IfOk result (λ good. MatchBool good
-            ((outcome : Ended) × Answers program.now (strip_carriage_return (self.old.part.items ++ last.now)) outcome
+            ((outcome : Ended) × Answers (programs_of filter.now) self.old.link (strip_carriage_return (self.old.part.items ++ last.now)) outcome
             × (outcomes.new.items ≡ outcomes.old.items ++ outcome ∷ []))
-            (IsErr (decode_of (strip_carriage_return (self.old.part.items ++ last.now))) × (outcomes.new.items ≡ outcomes.old.items))) }
+            (IsNotRun (programs_of filter.now) self.old.link (strip_carriage_return (self.old.part.items ++ last.now)) self.new.refused × (outcomes.new.items ≡ outcomes.old.items))) }
         ensures count { IfOk result (λ good. MatchBool good
             ((self.new.part.items ≡ []) × (self.old.number + 1 < 2 ^ 64 → self.new.number ≡ self.old.number + 1))
             (self.new.number ≡ self.old.number)) }
+        ensures link { self.new.link ≡ self.old.link }
     {
         let found = if self.part.is_empty() {
-            outcome_of(program, without_return(last), &mut self.packet)?
+            outcome_of(filter, self.link, without_return(last), &mut self.packet)?
         } else {
             self.keep(last)?;
             let line = without_return(self.part.as_slice());
-            let found = outcome_of(program, line, &mut self.packet)?;
+            let found = outcome_of(filter, self.link, line, &mut self.packet)?;
             self.part.clear();
             found
         };
         match found {
-            Some(outcome) => {
+            Ok(outcome) => {
                 outcomes.push(outcome)?;
                 self.number = self.number.saturating_add(1);
                 Ok(true)
             }
-            None => Ok(false),
+            Err(stop) => {
+                self.refused = stop;
+                Ok(false)
+            }
         }
     }
 
@@ -140,6 +162,7 @@ impl LineFeed {
         ensures kept { OnOk result (self.new.part.items ≡ self.old.part.items ++ bytes.now) }
         ensures short { OnOk result (length self.new.part.items < 2 ^ 32) }
         ensures number { self.new.number ≡ self.old.number }
+        ensures link { self.new.link ≡ self.old.link }
     {
         if bytes.len() > MOST_OF_A_LINE || self.part.len() > MOST_OF_A_LINE - bytes.len() {
             return Err(AllocError);

@@ -3,7 +3,7 @@
 ghost use Rattle.std.specs.Prelude.{◌≡◌, ◌++◌, ◌∷◌, List, [], ℕ};
 ghost use Rattle.console.specs.Linking.{AreLinkTypes, entry_links};
 
-use capture_reader::Entry;
+use capture_reader::{Entry, savefile_link};
 
 /// The link types that the interfaces of a capture have. A savefile has one interface.
 #[derive(Clone, Copy, PartialEq, Eq, Debug)]
@@ -36,7 +36,7 @@ impl LinkTypes {
         match entry {
             Entry::Packet(_) => self,
             Entry::Section(_) => self,
-            Entry::Savefile(header) => self.with(header.network),
+            Entry::Savefile(header) => self.with(savefile_link(header)),
             Entry::Interface(interface) => self.with(u32::from(interface.link)),
         }
     }

@@ -2,21 +2,19 @@
 
 ghost use Rattle.std.specs.Prelude.{◌≡◌, ◌<◌, ◌≤◌, ◌^◌, ℕ, List, [], length, All, true, false, IfOk, IsTrue};
 ghost use Rattle.std.specs.Bool.{MatchBool};
-ghost use Rattle.bpf_insn.specs.declared.insn.Insn.{Insn};
 ghost use Rattle.filter_vm.specs.declared.machine.Outcome.{Outcome as Ended};
 ghost use Rattle.capture_reader.specs.declared.entry.PacketTime.{PacketTime as Time};
-ghost use Rattle.console.specs.declared.form.PacketForm.{PacketForm as Form};
 ghost use Rattle.console.specs.Choosing.{is_capture};
-ghost use Rattle.console.specs.Running.{HasRun, IsStopped};
+ghost use Rattle.console.specs.Matching.{ending_status};
+ghost use Rattle.console.specs.Programs.{Programs, programs_of};
 ghost use Rattle.console.specs.Streaming.{SourceEnded, SourceRan, StampTo, form_of, is_stamped, links_of};
-ghost use Rattle.console.specs.Views.{RanAll, ending_status, ending_text};
+ghost use Rattle.console.specs.Views.{RanAll};
 
 use crate::capture_run::CaptureRun;
 use crate::ending::Ending;
 use crate::line_feed::LineFeed;
-use crate::{LinkTypes, PacketForm};
+use crate::{Filter, LinkTypes, PacketForm};
 use capture_reader::PacketTime;
-use filter_predecode::Predecoded;
 use filter_vm::Outcome;
 use std::alloc::{AllocError, Global};
 
@@ -33,12 +31,12 @@ impl PacketSource {
     /// A source that was given nothing, of such packets. Of a capture's the times are given, if `stamped`. Takes no memory.
     pub fn new(alloc: Global, form: PacketForm, stamped: bool) -> PacketSource
         requires { stamped ≡ true → is_capture form ≡ true }
-        ensures ran { (program : List Insn) → SourceRan program [] result [] [] }
+        ensures ran { (programs : Programs) → SourceRan programs [] result [] [] }
         ensures form { form_of result ≡ form }
         ensures stamped { is_stamped result ≡ stamped }
     {
         match form {
-            PacketForm::Digits => PacketSource::Lines(LineFeed::new(alloc)),
+            PacketForm::Digits(link) => PacketSource::Lines(LineFeed::new(alloc, link)),
             PacketForm::Capture(link) => {
                 PacketSource::Capture(CaptureRun::new(alloc, link, stamped))
             }
@@ -46,44 +44,44 @@ impl PacketSource {
     }
 
     /// Runs the filter on each packet that is whole after a piece, and appends the outcomes, and the time stamps if it has
-    /// them. True where nothing that follows is looked at: after a line that spells no packet, or a fault of the capture that
-    /// stands whatever follows.
+    /// them. True where nothing that follows is looked at: after a line that isn't run, a packet for whose link type CODE has no
+    /// program, or a fault of the capture that stands whatever follows.
     pub fn run(
         &mut self,
-        program: &Predecoded,
+        filter: &Filter,
         piece: &[u8],
         outcomes: &mut Vec<Outcome>,
         stamps: &mut Vec<PacketTime>,
     ) -> Result<bool, AllocError>
         requires { length piece.now ≤ 65536 }
         ensures runs { IfOk result (λ stopped. MatchBool stopped
-            (StampTo (SourceRan program.now) (SourceEnded program.now true) piece.now self.old self.new outcomes.old.items outcomes.new.items stamps.old.items stamps.new.items)
-            (StampTo (SourceRan program.now) (SourceRan program.now) piece.now self.old self.new outcomes.old.items outcomes.new.items stamps.old.items stamps.new.items)) }
+            (StampTo (SourceRan (programs_of filter.now)) (SourceEnded (programs_of filter.now) true) piece.now self.old self.new outcomes.old.items outcomes.new.items stamps.old.items stamps.new.items)
+            (StampTo (SourceRan (programs_of filter.now)) (SourceRan (programs_of filter.now)) piece.now self.old self.new outcomes.old.items outcomes.new.items stamps.old.items stamps.new.items)) }
         ensures form { form_of self.new ≡ form_of self.old }
         ensures stamped { is_stamped self.new ≡ is_stamped self.old }
         ensures plain { is_stamped self.old ≡ false → stamps.new.items ≡ stamps.old.items }
         ensures bytes { All (λ byte. byte < 256) piece.now }
     {
         match self {
-            PacketSource::Lines(lines) => lines.run_piece(program, piece, outcomes),
-            PacketSource::Capture(capture) => capture.run_piece(program, piece, outcomes, stamps),
+            PacketSource::Lines(lines) => lines.run_piece(filter, piece, outcomes),
+            PacketSource::Capture(capture) => capture.run_piece(filter, piece, outcomes, stamps),
         }
     }
 
     /// Runs the filter on the packet that the end of the input makes whole, if there is one, and appends the outcome. True
-    /// where there is a last line that spells no packet.
+    /// where there is a last line that isn't run.
     pub fn finish(
         &mut self,
-        program: &Predecoded,
+        filter: &Filter,
         outcomes: &mut Vec<Outcome>,
     ) -> Result<bool, AllocError>
         ensures runs { IfOk result (λ stopped. (stamps : List Time)
-            → StampTo (SourceRan program.now) (SourceEnded program.now stopped) [] self.old self.new outcomes.old.items outcomes.new.items stamps stamps) }
+            → StampTo (SourceRan (programs_of filter.now)) (SourceEnded (programs_of filter.now) stopped) [] self.old self.new outcomes.old.items outcomes.new.items stamps stamps) }
         ensures form { form_of self.new ≡ form_of self.old }
         ensures stamped { is_stamped self.new ≡ is_stamped self.old }
     {
         match self {
-            PacketSource::Lines(lines) => lines.finish(program, outcomes),
+            PacketSource::Lines(lines) => lines.finish(filter, outcomes),
             PacketSource::Capture(_) => Ok(false),
         }
     }
@@ -98,34 +96,23 @@ impl PacketSource {
         }
     }
 
-    /// What comes after the last packet that was run: the line at which the run stopped, or the fault of the capture.
+    /// What comes after the last packet that was run: the line at which the run stopped, the fault of CODE that a packet met, or the
+    /// fault of the capture.
     pub fn ending(&self, stopped: bool) -> Result<Ending, AllocError>
-        ensures ends { IfOk result (λ ending. (program : List Insn) (taken : List ℕ) (outcomes : List Ended) (stamps : List Time) → length taken < 2 ^ 64
-            → SourceEnded program stopped taken self.now outcomes stamps
-            → RanAll program (form_of self.now) taken outcomes (ending_status ending) (ending_text ending)) }
-        ensures status { IfOk result (λ ending. (program : List Insn) (taken : List ℕ) (outcomes : List Ended) (stamps : List Time)
-            → SourceEnded program stopped taken self.now outcomes stamps → IsTrue stopped → ending_status ending ≡ 1) }
+        ensures ends { IfOk result (λ ending. (programs : Programs) (taken : List ℕ) (outcomes : List Ended) (stamps : List Time) → length taken < 2 ^ 64
+            → SourceEnded programs stopped taken self.now outcomes stamps
+            → RanAll programs (form_of self.now) taken outcomes ending) }
+        ensures status { IfOk result (λ ending. (programs : Programs) (taken : List ℕ) (outcomes : List Ended) (stamps : List Time)
+            → SourceEnded programs stopped taken self.now outcomes stamps → IsTrue stopped → ending_status ending ≡ 1) }
     {
         match self {
             PacketSource::Lines(lines) => {
                 if !stopped {
                     return Ok(Ending::Done);
                 }
-                Ok(Ending::BadLine(lines.number().saturating_add(1)))
+                Ok(Ending::at_line(lines.number().saturating_add(1), lines.refused()))
             }
-            PacketSource::Capture(capture) => run_ending(capture),
+            PacketSource::Capture(capture) => capture.ending(),
         }
-    }
-}
-
-/// What comes after the last packet of a capture that was run.
-fn run_ending(run: &CaptureRun) -> Result<Ending, AllocError>
-    ensures ends { IfOk result (λ ending. (program : List Insn) (fed : List ℕ) (outcomes : List Ended) (stamps : List Time) → HasRun program fed run.now outcomes stamps
-        → RanAll program (Form.Capture run.now.link) fed outcomes (ending_status ending) (ending_text ending)) }
-    ensures stopped { IsStopped run.now → IfOk result (λ ending. ending_status ending ≡ 1) }
-{
-    match run.fault()? {
-        Some(fault) => Ok(Ending::Fault(fault)),
-        None => Ok(Ending::Done),
     }
 }

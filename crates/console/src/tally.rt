@@ -1,17 +1,19 @@
 //! Showing outcomes, and counting them.
 
-ghost use Rattle.std.specs.Prelude.{◌≡◌, ◌+◌, ◌<◌, ◌^◌, ◌++◌, ℕ, List, [], length, IfOk, IfErr, IsTrue, OnOk, OnErr, string_bytes, false};
+ghost use Rattle.std.specs.Prelude.{◌≡◌, ◌+◌, ◌<◌, ◌^◌, ◌++◌, ℕ, List, [], length, IfOk, IfErr, IsTrue, None, OnOk, OnErr, string_bytes, false};
 ghost use Rattle.filter_vm.specs.declared.machine.Outcome.{Outcome as Ended};
 ghost use Rattle.console.specs.declared.view.View.{View as Shown};
 ghost use Rattle.engine_io.specs.Devices.{StopsWriting, Writes};
 ghost use Rattle.engine_io.specs.Reading.{IsPrintFault};
 ghost use Rattle.engine_io.specs.Reading.{BeginsWith};
-ghost use Rattle.console.specs.Views.{HasCounted, IsNoneStatus, ShowsEnd, accepted, ending_status, shown_at_once};
+ghost use Rattle.console.specs.declared.tally.Finished.{Finished as Ends};
+ghost use Rattle.console.specs.Matching.{ending_status, ending_stop};
+ghost use Rattle.console.specs.Views.{HasCounted, IsNoneStatus, ShowsEnd, accepted, shown_at_once};
 
-use crate::View;
 use crate::ending::Ending;
 use crate::output::write_outcomes;
 use crate::view::push_after;
+use crate::{CodeFault, View};
 use capture_reader::PacketTime;
 use engine_io::{EngineFault, Sink, write_text};
 use filter_vm::Outcome;
@@ -20,6 +22,15 @@ use std::io::Write;
 
 /// The status by which `View::Quiet` says that no packet was accepted.
 pub const NONE_ACCEPTED: u8 = 4;
+
+/// What came of all packets.
+#[derive(Clone, Copy, Debug)]
+pub struct Finished {
+    /// The status.
+    pub status: u8,
+    /// The fault of CODE that a packet met, if one did.
+    pub stop: Option<CodeFault>,
+}
 
 /// Shows outcomes under a view, and counts them.
 #[derive(Drop)]
@@ -98,29 +109,33 @@ impl Tally {
         matches!(self.view, View::Quiet) && self.accepted > 0
     }
 
-    /// Writes what comes after the last packet, and answers the status.
+    /// Writes what comes after the last packet, and answers the status, and the fault of CODE that was met. Under `View::Quiet`
+    /// that doesn't matter where a packet was accepted.
     pub fn finish<W: Write>(
         mut self,
         ending: Ending,
         writer: &mut Sink<W>,
-    ) -> Result<u8, EngineFault>
+    ) -> Result<Finished, EngineFault>
         requires empty { string_bytes self.text ≡ [] }
         requires good { writer.old.failed ≡ false }
-        ensures shown { IfOk result (λ status. (text : List ℕ) × Writes W.contents writer.old writer.new text
-            × ShowsEnd self.view self.accepted self.total ending status text) }
+        ensures shown { IfOk result (λ finished. (text : List ℕ) × Writes W.contents writer.old writer.new text
+            × ShowsEnd self.view self.accepted self.total ending text finished) }
         ensures left { OnErr result ((text : List ℕ) × Writes W.contents writer.old writer.new text
-            × ((status : ℕ) × (whole : List ℕ) × ShowsEnd self.view self.accepted self.total ending status whole × BeginsWith text whole)) }
+            × ((finished : Ends) × (whole : List ℕ) × ShowsEnd self.view self.accepted self.total ending whole finished × BeginsWith text whole)) }
         ensures fault { IfErr result IsPrintFault }
         ensures good { OnOk result (writer.new.failed ≡ false) }
         ensures cause { IfErr result (StopsWriting writer.new) }
     {
         if let View::Quiet = self.view {
-            return Ok(quiet_status(self.accepted, ending));
+            return Ok(quiet_end(self.accepted, ending));
         }
         push_after(&mut self.text, self.view, self.accepted, self.total)?;
         ending.push(&mut self.text)?;
         write_text(writer, self.text.as_str())?;
-        Ok(ending.status())
+        Ok(Finished {
+            status: ending.status(),
+            stop: ending.stop(),
+        })
     }
 }
 
@@ -134,16 +149,24 @@ fn accepted(outcomes: &[Outcome]) -> u64
         .count() as u64
 }
 
-/// The status under `View::Quiet`.
-fn quiet_status(accepted: u64, ending: Ending) -> u8
-    ensures some { 0 < accepted → result ≡ 0 }
-    ensures none { accepted ≡ 0 → IsNoneStatus (ending_status ending) result }
+/// The end under `View::Quiet`.
+fn quiet_end(accepted: u64, ending: Ending) -> Finished
+    ensures some { 0 < accepted → (result.status ≡ 0) × (result.stop ≡ None) }
+    ensures none { accepted ≡ 0 → IsNoneStatus (ending_status ending) result.status × (result.stop ≡ ending_stop ending) }
 {
     if accepted > 0 {
-        0
-    } else if ending.status() == 0 {
+        return Finished {
+            status: 0,
+            stop: None,
+        };
+    }
+    let status = if ending.status() == 0 {
         NONE_ACCEPTED
     } else {
         ending.status()
+    };
+    Finished {
+        status,
+        stop: ending.stop(),
     }
 }

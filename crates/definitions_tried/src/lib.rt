@@ -25,5 +25,5 @@ pub use printed::{matched_lines, printed_events};
 pub use readings::told_by_events;
 pub use scripts::{script_limits, script_lines, script_words};
 pub use tables::{bounds, budgets, capabilities, logs, receivers, refusals, shares};
-pub use texts::{assembler_texts, decimal_texts, refused_texts};
+pub use texts::{assembler_texts, decimal_texts, refused_texts, told_texts};
 pub use verifier::{refused_programs, sound_programs};

@@ -1,10 +1,11 @@
 //! Filters as texts.
 
-ghost use Rattle.std.specs.Prelude.{◌≡◌, [], ◌∷◌, Err, Ok, Some, codes};
+ghost use Rattle.std.specs.Prelude.{◌≡◌, [], ◌∷◌, Err, Ok, Some, codes, false, true};
 ghost use Rattle.bpf_insn.specs.AsmText.{asm_text};
 ghost use Rattle.bpf_insn.specs.Ddd.{Ddd, Faults};
 ghost use Rattle.bpf_insn.specs.declared.ddd.TextFault.TheVariants.{CountMismatch, TooLong};
 ghost use Rattle.bpf_insn.specs.DddText.{ddd_text};
+ghost use Rattle.console.specs.Telling.{is_expression};
 ghost use Rattle.filter_asm.specs.declared.fault.AsmFaultKind.TheVariants as asm_fault;
 ghost use Rattle.filter_asm.specs.Program.{Asm, assembled, room_behind, short_reach};
 ghost use Rattle.definitions_tried.specs.Texts.{arp_all, arp_assembler, arp_labelled, arp_lines, arp_numbers, computing_insns, computing_lines, fault, jumping_insns, jumping_lines, labelled, looping, moving_insns, moving_lines, return_0, testing_insns, testing_lines, unlabelled};
@@ -18,6 +19,20 @@ pub fn decimal_texts()
     ensures count_of_4096 { Faults (codes "4096") CountMismatch }
     ensures count_of_4097 { Faults (codes "4097") TooLong }
     ensures not_too_long_at_4096 { Faults (codes "4096") TooLong → ⊥ }
+{}
+
+/// Which texts of CODE are filter expressions: those of pcap-filter(7) begin with a word, a parenthesis, `!` or an escaped
+/// name, and the numbers that `tcpdump -ddd` writes with a digit.
+pub fn told_texts()
+    ensures of_a_word { is_expression (codes "tcp port 80") ≡ true }
+    ensures of_a_parenthesis { is_expression (codes "(arp or ip6) and not vlan") ≡ true }
+    ensures of_a_negation { is_expression (codes "!ip") ≡ true }
+    ensures of_an_escape { is_expression (92 ∷ codes "icmp") ≡ true }
+    ensures of_blanks_before { is_expression (32 ∷ 9 ∷ 13 ∷ 10 ∷ codes "arp") ≡ true }
+    ensures of_numbers { is_expression arp_numbers ≡ false }
+    ensures of_blanks_before_numbers { is_expression (32 ∷ 10 ∷ codes "1,6 0 0 1") ≡ false }
+    ensures of_nothing { is_expression [] ≡ false }
+    ensures of_blanks { is_expression (32 ∷ 10 ∷ []) ≡ false }
 {}
 
 /// The example "ARP packets" of Linux' documentation, which `bpf_asm` takes, and the labelled lines that stand for

@@ -20,7 +20,7 @@ use Rattle.pcapng_reader.specs.Grammar.{WholeBlock}
 use Rattle.pcapng_reader.specs.Held.{Advances, Ends, HasBytes, HoldsAfter, HoldsAt, IsFresh, Skims, Takes, copies_all, held_block, held_fault, place_of, seen_block}
 use Rattle.pcapng_reader.specs.Held.{HasStopped as HasStoppedFeed}
 use Rattle.pcapng_reader.specs.Packets.{captured_in, packets_by}
-use Rattle.console.specs.Matching.{AnswersCaptured}
+use Rattle.console.specs.Refusing.{AnswersCaptured}
 use Rattle.console.proofs.RunningLemmas.{AllZip-append}
 use Rattle.keep_engine.specs.declared.choice.Wanted.{Wanted}
 use Rattle.keep_engine.specs.declared.block_sieve.BlockSieve.{BlockSieve}

@@ -21,7 +21,7 @@ use Rattle.keep_engine.specs.declared.keeping.TheConstants.{BLOCK, MANY, SMALL}
 use Rattle.engine_io.specs.declared.source.Source.{Source}
 use Rattle.engine_io.specs.declared.sink.Sink.{Sink}
 use Rattle.engine_io.specs.Devices.{Gets, GetsNothing, Writes}
-use Rattle.console.specs.Matching.{AnswersCaptured}
+use Rattle.console.specs.Refusing.{AnswersCaptured}
 use Rattle.engine_io.specs.Reading.{BeginsWith}
 use Rattle.engine_io.proofs.KnownBytesLemmas.{gets-kept, gets-nothing, gets-then, writes-nothing, writes-then}
 use Rattle.console.proofs.StreamingLemmas.{begins_itself}
@@ -36,6 +36,7 @@ use Rattle.pcapng_reader.specs.Blocks.{is_pcapng}
 use Rattle.keep_engine.specs.Keeping.{Keeps, KeepsFront, KeepsGoodCode, KeepsPart, Leaves, Says, kept}
 use Rattle.keep_engine.specs.Sieving.{HasSifted, HasSiftedBlocks, SiftedAt, SiftedBy, Sifts}
 use Rattle.keep_engine.proofs.SieveLemmas.{told_on}
+use Rattle.capture_reader.specs.Entries.{savefile_link}
 
 -- what was read and kept so far
 pub record Copied {R W : Type 0} (program : List Insn) (wanted : Wanted) (remaining : R → Option (List ℕ)) (from at : Source R) (contents : W → Option (List ℕ)) (old new : Sink W) (sieve : Sieve) : Type 0 where
@@ -48,7 +49,7 @@ pub record Copied {R W : Type 0} (program : List Insn) (wanted : Wanted) (remain
 
 -- a savefile up to the end of a record
 savefile_front : (program : List Insn) (wanted : Wanted) (input head part text : List ℕ) (records : List (List ℕ)) (packets : List CapturedPacket) (outcomes : List Outcome) (h : Header) → is_pcapng input ≡ false → input ≡ (head ++ concat records) ++ part → IsHeader head h
-    → AllZip (IsRecord h.big) records packets → AllZip (AnswersCaptured program) packets outcomes → text ≡ head ++ kept wanted h.network records outcomes → KeepsFront program wanted input text
+    → AllZip (IsRecord h.big) records packets → AllZip (AnswersCaptured program) packets outcomes → text ≡ head ++ kept wanted (savefile_link h) records outcomes → KeepsFront program wanted input text
 savefile_front program wanted input head part text records packets outcomes h other parts header each ran is = inr (
   head ++ concat records,
   part,

@@ -11,24 +11,25 @@ use Rattle.pcap_reader.specs.declared.capture.Header.{Header}
 use Rattle.pcap_reader.specs.declared.feed.Seen.{Seen}
 use Rattle.pcap_reader.specs.Held.{seen_packet}
 use Rattle.pcap_reader.specs.Savefile.{IsRecord}
-use Rattle.console.specs.Matching.{AnswersCaptured}
+use Rattle.console.specs.Refusing.{AnswersCaptured}
 use Rattle.console.proofs.RunningLemmas.{AllZip-append}
 use Rattle.keep_engine.specs.declared.choice.Wanted.{Wanted}
 use Rattle.keep_engine.specs.Keeping.{is_kept, kept}
 use Rattle.keep_engine.specs.Sieving.{KeepsOne, TakesRecords}
+use Rattle.capture_reader.specs.Entries.{savefile_link}
 
 -- some records and then others
 pub kept-append : (wanted : Wanted) (h : Header) (program : List Insn) (records records' : List (List ℕ)) (packets : List CapturedPacket) (outcomes outcomes' : List Outcome)
     → AllZip (IsRecord h.big) records packets → AllZip (AnswersCaptured program) packets outcomes
-    → kept wanted h.network (records ++ records') (outcomes ++ outcomes') ≡ kept wanted h.network records outcomes ++ kept wanted h.network records' outcomes'
+    → kept wanted (savefile_link h) (records ++ records') (outcomes ++ outcomes') ≡ kept wanted (savefile_link h) records outcomes ++ kept wanted (savefile_link h) records' outcomes'
 kept-append wanted h program [] records' [] [] outcomes' each ran = refl
 kept-append wanted h program [] records' [] (o ∷ outcomes) outcomes' each ran = absurd ran
 kept-append wanted h program [] records' (p ∷ packets) outcomes outcomes' each ran = absurd each
 kept-append wanted h program (r ∷ records) records' [] outcomes outcomes' each ran = absurd each
 kept-append wanted h program (r ∷ records) records' (p ∷ packets) [] outcomes' each ran = absurd ran
 kept-append wanted h program (r ∷ records) records' (p ∷ packets) (o ∷ outcomes) outcomes' each ran =
-    ap (λ t. (if is_kept wanted h.network o then r else []) ++ t) (kept-append wanted h program records records' packets outcomes outcomes' each.1 ran.1)
-    ∙ sym (append_assoc (if is_kept wanted h.network o then r else []) (kept wanted h.network records outcomes) (kept wanted h.network records' outcomes'))
+    ap (λ t. (if is_kept wanted (savefile_link h) o then r else []) ++ t) (kept-append wanted h program records records' packets outcomes outcomes' each.1 ran.1)
+    ∙ sym (append_assoc (if is_kept wanted (savefile_link h) o then r else []) (kept wanted (savefile_link h) records outcomes) (kept wanted (savefile_link h) records' outcomes'))
 
 pub takes_none : (program : List Insn) (wanted : Wanted) (h : Header) (bytes before : List ℕ) → TakesRecords program wanted h bytes bytes before before
 takes_none program wanted h bytes before = record {
@@ -43,7 +44,7 @@ takes_none program wanted h bytes before = record {
 
 -- one record more
 pub takes_next : (program : List Insn) (wanted : Wanted) (h : Header) (bytes rest rest' front before between after : List ℕ) (packet : Seen)
-    → TakesRecords program wanted h bytes rest before between → rest ≡ front ++ rest' → IsRecord h.big front (seen_packet packet) → KeepsOne program wanted h.network packet front between after
+    → TakesRecords program wanted h bytes rest before between → rest ≡ front ++ rest' → IsRecord h.big front (seen_packet packet) → KeepsOne program wanted (savefile_link h) packet front between after
     → TakesRecords program wanted h bytes rest' before after
 takes_next program wanted h bytes rest rest' front before between after packet so parts is one = record {
   records = so.records ++ front ∷ [];
@@ -53,13 +54,13 @@ takes_next program wanted h bytes rest rest' front before between after packet s
       ∙ ap (λ t. t ++ rest') (ap (λ t. concat so.records ++ t) (sym (append-nil front)) ∙ sym (concat-append so.records (front ∷ [])));
   each = AllZip-append (IsRecord h.big) so.records (front ∷ []) so.packets (seen_packet packet ∷ []) so.each (is, tt);
   ran = AllZip-append (AnswersCaptured program) so.packets (seen_packet packet ∷ []) so.outcomes (one.0 ∷ []) so.ran (one.1, tt);
-  pushed = one.2 ∙ ap (λ t. t ++ (if is_kept wanted h.network one.0 then front else [])) so.pushed ∙ append_assoc before (kept wanted h.network so.records so.outcomes) (if is_kept wanted h.network one.0 then front else [])
-      ∙ ap (λ t. before ++ t) (ap (λ t. kept wanted h.network so.records so.outcomes ++ t) (sym (append-nil (if is_kept wanted h.network one.0 then front else [])))
+  pushed = one.2 ∙ ap (λ t. t ++ (if is_kept wanted (savefile_link h) one.0 then front else [])) so.pushed ∙ append_assoc before (kept wanted (savefile_link h) so.records so.outcomes) (if is_kept wanted (savefile_link h) one.0 then front else [])
+      ∙ ap (λ t. before ++ t) (ap (λ t. kept wanted (savefile_link h) so.records so.outcomes ++ t) (sym (append-nil (if is_kept wanted (savefile_link h) one.0 then front else [])))
       ∙ sym (kept-append wanted h program so.records (front ∷ []) so.packets so.outcomes (one.0 ∷ []) so.each so.ran));
 }
 
 -- a part that has become a record
-pub takes_whole : (program : List Insn) (wanted : Wanted) (h : Header) (part front before after : List ℕ) (packet : Seen) → front ≡ part → IsRecord h.big front (seen_packet packet) → KeepsOne program wanted h.network packet part before after
+pub takes_whole : (program : List Insn) (wanted : Wanted) (h : Header) (part front before after : List ℕ) (packet : Seen) → front ≡ part → IsRecord h.big front (seen_packet packet) → KeepsOne program wanted (savefile_link h) packet part before after
     → TakesRecords program wanted h part [] before after
 takes_whole program wanted h part front before after packet all is one =
     takes_next program wanted h part part [] part before before after packet (takes_none program wanted h part before) (sym (append-nil part)) (rw all at is) one
@@ -76,7 +77,7 @@ takes_then (Ok done) program wanted h part piece mid rest bytes left before betw
       ∙ sym (append_assoc (concat first.records) (concat second.records) left) ∙ ap (λ t. t ++ left) (sym (concat-append first.records second.records));
   each = AllZip-append (IsRecord h.big) first.records second.records first.packets second.packets first.each second.each;
   ran = AllZip-append (AnswersCaptured program) first.packets second.packets first.outcomes second.outcomes first.ran second.ran;
-  pushed = second.pushed ∙ ap (λ t. t ++ kept wanted h.network second.records second.outcomes) first.pushed ∙ append_assoc before (kept wanted h.network first.records first.outcomes) (kept wanted h.network second.records second.outcomes)
+  pushed = second.pushed ∙ ap (λ t. t ++ kept wanted (savefile_link h) second.records second.outcomes) first.pushed ∙ append_assoc before (kept wanted (savefile_link h) first.records first.outcomes) (kept wanted (savefile_link h) second.records second.outcomes)
       ∙ ap (λ t. before ++ t) (sym (kept-append wanted h program first.records second.records first.packets first.outcomes second.outcomes first.each first.ran));
 }
 

@@ -9,17 +9,18 @@ use Rattle.pcap_reader.specs.declared.capture.Header.{Header}
 use Rattle.pcap_reader.specs.declared.capture.CaptureFault.{CaptureFault}
 use Rattle.pcap_reader.specs.declared.capture.CaptureFault.TheVariants.{TruncatedRecord, TooLong}
 use Rattle.pcap_reader.specs.Savefile.{EndsWith, IsHeader, IsPart, IsRecord}
-use Rattle.console.specs.Matching.{AnswersCaptured}
+use Rattle.console.specs.Refusing.{AnswersCaptured}
 use Rattle.console.proofs.RunningLemmas.{AllZip-append}
 use Rattle.keep_engine.specs.declared.choice.Wanted.{Wanted}
 use Rattle.keep_engine.specs.declared.record_sieve.RecordSieve.{RecordSieve}
 use Rattle.keep_engine.specs.Keeping.{KeepsSavefile, kept}
 use Rattle.keep_engine.specs.Sieving.{HasSiftedRecords, IsLeft, OpensAt, Sifted, SiftedAt, Sifts, TakesRecords}
 use Rattle.keep_engine.proofs.RecordLemmas.{kept-append}
+use Rattle.capture_reader.specs.Entries.{savefile_link}
 
 -- of a part that has grown more records were taken
 sifted_next : (program : List Insn) (wanted : Wanted) (taken piece : List ℕ) (h : Header) (part part' text before after : List ℕ)
-    → Sifted program wanted taken h part text → (so : TakesRecords program wanted h (part ++ piece) part' before after) → Sifted program wanted (taken ++ piece) h part' (text ++ kept wanted h.network so.records so.outcomes)
+    → Sifted program wanted taken h part text → (so : TakesRecords program wanted h (part ++ piece) part' before after) → Sifted program wanted (taken ++ piece) h part' (text ++ kept wanted (savefile_link h) so.records so.outcomes)
 sifted_next program wanted taken piece h part part' text before after was so = record {
   head = was.head;
   records = was.records ++ so.records;
@@ -31,14 +32,14 @@ sifted_next program wanted taken piece h part part' text before after was so = r
   header = was.header;
   each = AllZip-append (IsRecord h.big) was.records so.records was.packets so.packets was.each so.each;
   ran = AllZip-append (AnswersCaptured program) was.packets so.packets was.outcomes so.outcomes was.ran so.ran;
-  is = ap (λ t. t ++ kept wanted h.network so.records so.outcomes) was.is ∙ append_assoc was.head (kept wanted h.network was.records was.outcomes) (kept wanted h.network so.records so.outcomes)
+  is = ap (λ t. t ++ kept wanted (savefile_link h) so.records so.outcomes) was.is ∙ append_assoc was.head (kept wanted (savefile_link h) was.records was.outcomes) (kept wanted (savefile_link h) so.records so.outcomes)
       ∙ ap (λ t. was.head ++ t) (sym (kept-append wanted h program was.records so.records was.packets was.outcomes so.outcomes was.each was.ran));
 }
 
 pub piece_taken : (program : List Insn) (wanted : Wanted) (piece : List ℕ) (old new : RecordSieve) (h : Header) (before after : List ℕ) → old.header ≡ Ok h → new.header ≡ old.header
     → TakesRecords program wanted h (old.part.items ++ piece) new.part.items before after → IsLeft h.big new.long new.part.items → Sifts (HasSiftedRecords program wanted) piece old new before after
 piece_taken program wanted piece old new h before after is same so left = record {
-  more = kept wanted h.network so.records so.outcomes;
+  more = kept wanted (savefile_link h) so.records so.outcomes;
   pushed = so.pushed;
   goes = λ taken text was short. let has = rw is at was in rw (same ∙ is) (sifted_next program wanted taken piece h old.part.items new.part.items text before after has.0 so, left);
 }
@@ -48,8 +49,8 @@ first_sifted : (program : List Insn) (wanted : Wanted) (bytes before after : Lis
     → (more : List ℕ) × (after ≡ before ++ more) × SiftedAt program wanted bytes header long part more
 first_sifted program wanted bytes before after (Err fault) long part opens = ([], opens.2 ∙ sym (append-nil before), (opens.0, opens.1, refl))
 first_sifted program wanted bytes before after (Ok h) long part (head, rest, parts, is, so, left) = (
-  head ++ kept wanted h.network so.records so.outcomes,
-  so.pushed ∙ append_assoc before head (kept wanted h.network so.records so.outcomes),
+  head ++ kept wanted (savefile_link h) so.records so.outcomes,
+  so.pushed ∙ append_assoc before head (kept wanted (savefile_link h) so.records so.outcomes),
   (
     record {
       head = head;

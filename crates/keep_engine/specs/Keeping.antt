@@ -20,9 +20,10 @@ use Rattle.capture_reader.specs.declared.fault.ReadFault.TheVariants.{Savefile, 
 use Rattle.console.specs.Choosing.{is_link}
 use Rattle.console.specs.Code.{IsGoodCode}
 use Rattle.console.specs.Faults.{fault_status, fault_text}
-use Rattle.console.specs.Matching.{AnswersCaptured}
+use Rattle.console.specs.Refusing.{AnswersCaptured}
 use Rattle.engine_io.specs.Reading.{BeginsWith}
 use Rattle.keep_engine.specs.declared.choice.Wanted.{Wanted}
+use Rattle.capture_reader.specs.Entries.{savefile_link}
 
 -- whether the filter accepts a packet with this outcome: the verdict is above 0; or, inverted, whether it doesn't
 abbrev pub is_picked : Bool → Outcome → Bool
@@ -45,7 +46,7 @@ pub record KeepsRecords (program : List Insn) (wanted : Wanted) (input : List �
   pub capture : HasRecords input h packets fault
   pub outcomes : List Outcome
   pub ran : AllZip (AnswersCaptured program) packets outcomes
-  pub is : text ≡ capture.head ++ kept wanted h.network capture.records outcomes
+  pub is : text ≡ capture.head ++ kept wanted (savefile_link h) capture.records outcomes
 
 -- text is what is kept of a savefile with this fault: of one that has no header nothing
 abbrev pub KeepsSavefile : List Insn → Wanted → List ℕ → Option SavefileFault → List ℕ → Type 0

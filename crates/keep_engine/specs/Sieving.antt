@@ -18,7 +18,7 @@ use Rattle.pcapng_reader.specs.declared.feed.FeedStep.TheVariants.{Block, Held}
 use Rattle.pcapng_reader.specs.Blocks.{is_pcapng}
 use Rattle.pcapng_reader.specs.Grammar.{WholeBlock}
 use Rattle.pcapng_reader.specs.Held.{HoldsAfter, copies_all, held_block, held_fault, seen_block}
-use Rattle.console.specs.Matching.{AnswersCaptured}
+use Rattle.console.specs.Refusing.{AnswersCaptured}
 use Rattle.keep_engine.specs.declared.choice.Wanted.{Wanted}
 use Rattle.keep_engine.specs.declared.sifting.TakenRecords.{TakenRecords}
 use Rattle.keep_engine.specs.declared.record_sieve.RecordSieve.{RecordSieve}
@@ -27,6 +27,7 @@ use Rattle.keep_engine.specs.declared.sieve.Format.{Format}
 use Rattle.keep_engine.specs.declared.sieve.Format.TheVariants.{Unknown, Savefile, Pcapng}
 use Rattle.keep_engine.specs.declared.sieve.Sieve.{Sieve}
 use Rattle.keep_engine.specs.Keeping.{Leaves, is_kept, kept}
+use Rattle.capture_reader.specs.Entries.{savefile_link}
 
 -- the bytes that hold one packet were appended, if it is kept
 abbrev pub KeepsOne : List Insn → Wanted → ℕ → Seen → List ℕ → List ℕ → List ℕ → Type 0
@@ -49,7 +50,7 @@ pub record TakesRecords (program : List Insn) (wanted : Wanted) (h : Header) (by
   pub parts : bytes ≡ concat records ++ rest
   pub each : AllZip (IsRecord h.big) records packets
   pub ran : AllZip (AnswersCaptured program) packets outcomes
-  pub pushed : after ≡ before ++ kept wanted h.network records outcomes
+  pub pushed : after ≡ before ++ kept wanted (savefile_link h) records outcomes
 
 -- after the whole records comes one that is too long, or a part of one, or nothing
 abbrev pub IsLeft : Bool → Bool → List ℕ → Type 0
@@ -71,7 +72,7 @@ pub record Sifted (program : List Insn) (wanted : Wanted) (taken : List ℕ) (h 
   pub header : IsHeader head h
   pub each : AllZip (IsRecord h.big) records packets
   pub ran : AllZip (AnswersCaptured program) packets outcomes
-  pub is : text ≡ head ++ kept wanted h.network records outcomes
+  pub is : text ≡ head ++ kept wanted (savefile_link h) records outcomes
 
 -- the same where the header isn't whole, or none
 abbrev pub SiftedAt : List Insn → Wanted → List ℕ → Result Header CaptureFault → Bool → List ℕ → List ℕ → Type 0

@@ -10,6 +10,7 @@ use crate::choice::Wanted;
 use crate::sifting::{take_piece, take_records};
 use console::LinkTypes;
 use filter_predecode::Predecoded;
+use capture_reader::savefile_link;
 use pcap_reader::{CaptureFault, Header};
 use savefile_front::{FILE_HEADER, header_of};
 use std::alloc::{AllocError, Global};
@@ -99,7 +100,7 @@ impl RecordSieve {
     /// The link types of the interface, once the header was read.
     pub fn links(&self) -> LinkTypes {
         match self.header {
-            Ok(header) => LinkTypes::One(header.network),
+            Ok(header) => LinkTypes::One(savefile_link(header)),
             Err(_) => LinkTypes::None,
         }
     }

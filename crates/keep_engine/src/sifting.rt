@@ -5,6 +5,7 @@ ghost use Rattle.keep_engine.specs.Sieving.{IsLeft, TakesRecords, TakesTo};
 
 use crate::choice::{Wanted, keep_one};
 use filter_predecode::Predecoded;
+use capture_reader::savefile_link;
 use pcap_reader::Header;
 use savefile_front::{Front, front_of, length_of};
 use std::alloc::AllocError;
@@ -77,7 +78,7 @@ fn take_whole(
             keep_one(
                 program,
                 wanted,
-                header.network,
+                savefile_link(header),
                 packet,
                 part.as_slice(),
                 kept,
@@ -145,7 +146,7 @@ fn sift(
                 keep_one(
                     program,
                     wanted,
-                    header.network,
+                    savefile_link(header),
                     packet,
                     &rest[..length],
                     kept,

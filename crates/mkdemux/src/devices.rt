@@ -1,5 +1,6 @@
 //! The input and standard output, each of which keeps why it failed.
 
+use std::alloc::{AllocError, Global};
 use std::fs::File;
 use std::io::{self, ErrorKind, Read, Stdin, Stdout, Write};
 
@@ -25,10 +26,15 @@ pub struct FileInput {
     front: [u8; FRONT],
     /// How many of the first bytes were read.
     filled: usize,
+    /// How many of the first bytes were looked at and are still to be given.
+    waiting: usize,
     fault: Option<ErrorKind>,
 }
 
 impl FileInput {
+    ghost use Rattle.std.specs.Prelude.{IfOk};
+    ghost use Rattle.std.specs.Counts.{IsPrefixLen};
+
     /// Standard input, of which nothing has been read.
     pub fn standard(stdin: Stdin) -> FileInput {
         FileInput::new(Place::Standard(stdin))
@@ -44,8 +50,21 @@ impl FileInput {
             place,
             front: [0; FRONT],
             filled: 0,
+            waiting: 0,
             fault: None,
         }
+    }
+
+    /// Looks at the first bytes, which reads give all the same.
+    pub fn look(&mut self) {
+        let mut block = [0u8; 1];
+        for _turn in 0..FRONT {
+            match self.read_device(&mut block) {
+                Ok(0) | Err(_) => break,
+                Ok(_) => {}
+            }
+        }
+        self.waiting = self.filled;
     }
 
     /// What to say where it is standard input and could not be read, by why.
@@ -65,20 +84,21 @@ impl FileInput {
         Some(self.front)
     }
 
-    /// Keeps those of some bytes that are among the first ones.
-    fn keep(&mut self, bytes: &[u8]) {
-        for byte in bytes {
-            if self.filled >= FRONT {
-                return;
-            }
-            self.front[self.filled] = *byte;
-            self.filled += 1;
+    /// Whether it begins as a savefile or as pcapng does.
+    pub fn is_capture(&self) -> bool {
+        match self.front() {
+            Some(front) => matches!(
+                u32::from_be_bytes(front),
+                0xa1b2_c3d4 | 0xd4c3_b2a1 | 0xa1b2_3c4d | 0x4d3c_b2a1 | 0x0a0d_0d0a
+            ),
+            None => false,
         }
     }
-}
 
-impl Read for FileInput {
-    fn read(&mut self, buffer: &mut [u8]) -> io::Result<usize> {
+    /// Reads from the device.
+    fn read_device(&mut self, buffer: &mut [u8]) -> io::Result<usize>
+        ensures { IfOk result (λ n. IsPrefixLen n buffer.new) }
+    {
         let answer = match &mut self.place {
             Place::Standard(stdin) => stdin.read(buffer),
             Place::Named(file) => file.read(buffer),
@@ -93,23 +113,61 @@ impl Read for FileInput {
         }
         answer
     }
+
+    /// Keeps those of some bytes that are among the first ones.
+    fn keep(&mut self, bytes: &[u8]) {
+        for byte in bytes {
+            if self.filled >= FRONT {
+                return;
+            }
+            self.front[self.filled] = *byte;
+            self.filled += 1;
+        }
+    }
 }
 
-/// Standard output, whether nobody reads it any more, and whether anything was written.
+impl Read for FileInput {
+    fn read(&mut self, buffer: &mut [u8]) -> io::Result<usize> {
+        if self.waiting == 0 {
+            return self.read_device(buffer);
+        }
+        let front = self.front;
+        let start = self.filled.saturating_sub(self.waiting);
+        let mut rest = front.get(start..self.filled).unwrap_or(&[]);
+        let answer = rest.read(buffer);
+        if let Ok(count) = &answer {
+            self.waiting = self.waiting.saturating_sub(*count);
+        }
+        answer
+    }
+}
+
+/// Standard output: whether nobody reads it any more, whether anything was written, and what its lines begin with.
 #[derive(Drop)]
-pub struct Output {
+pub struct Output<'a> {
     inner: Stdout,
     closed: bool,
     used: bool,
+    /// The name that each line begins with, if any does.
+    name: Option<&'a str>,
+    /// Whether what comes next begins a line.
+    begins: bool,
+    /// Whether a line began with a number above 0, as those of accepted packets do.
+    accepted: bool,
+    alloc: Global,
 }
 
-impl Output {
-    /// Standard output, to which nothing has been written.
-    pub fn new(inner: Stdout) -> Output {
+impl<'a> Output<'a> {
+    /// Standard output, to which nothing has been written. Each line begins with this name and a colon, if there is one.
+    pub fn new(alloc: Global, inner: Stdout, name: Option<&'a str>) -> Output<'a> {
         Output {
             inner,
             closed: false,
             used: false,
+            name,
+            begins: true,
+            accepted: false,
+            alloc,
         }
     }
 
@@ -122,13 +180,72 @@ impl Output {
     pub fn is_closed(&self) -> bool {
         self.closed
     }
+
+    /// Whether a line began with a number above 0: the verdict on an accepted packet, or how many were accepted.
+    pub fn has_accepted(&self) -> bool {
+        self.accepted
+    }
+
+    /// Notes what lines begin with in some bytes that were written.
+    fn note(&mut self, bytes: &[u8]) {
+        for byte in bytes {
+            if self.begins && matches!(byte, b'1'..=b'9') {
+                self.accepted = true;
+            }
+            self.begins = *byte == b'\n';
+        }
+    }
+
+    /// These bytes, with the name before each line that begins in them.
+    fn named(&self, name: &str, bytes: &[u8]) -> Result<Vec<u8>, AllocError> {
+        let mut text = Vec::new(self.alloc);
+        let mut begins = self.begins;
+        for byte in bytes {
+            if begins {
+                text.extend_from_slice(name.as_bytes())?;
+                text.push(b':')?;
+            }
+            text.push(*byte)?;
+            begins = *byte == b'\n';
+        }
+        Ok(text)
+    }
+
+    /// Notes that these bytes were written.
+    fn wrote(&mut self, bytes: &[u8]) {
+        self.used = true;
+        self.note(bytes);
+    }
+
+    /// Writes bytes, with the name before each line that begins in them.
+    fn write_named(&mut self, name: &str, bytes: &[u8]) -> io::Result<()> {
+        let text = self.named(name, bytes)?;
+        match self.inner.write_all(text.as_slice()) {
+            Ok(()) => {
+                self.wrote(bytes);
+                Ok(())
+            }
+            Err(error) => {
+                self.closed = error.kind() == ErrorKind::BrokenPipe;
+                Err(error)
+            }
+        }
+    }
 }
 
-impl Write for Output {
+impl Write for Output<'_> {
     fn write(&mut self, bytes: &[u8]) -> io::Result<usize> {
+        if let Some(name) = self.name {
+            self.write_named(name, bytes)?;
+            return Ok(bytes.len());
+        }
         let answer = self.inner.write(bytes);
         match &answer {
-            Ok(_) => self.used = true,
+            Ok(count) => {
+                if let Some(written) = bytes.get(..*count) {
+                    self.wrote(written);
+                }
+            }
             Err(error) => self.closed = error.kind() == ErrorKind::BrokenPipe,
         }
         answer

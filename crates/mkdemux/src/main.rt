@@ -12,19 +12,21 @@ ghost use Rattle.script_input.specs.Inputs.{AllFresh};
 
 mod devices;
 mod hints;
+mod link_names;
 mod progress;
 mod usage;
 
 use clap::Error;
 use clap::error::ErrorKind;
-use command_line::{Invocation, Request, request_of};
-use commands::{most_reads, perform};
-use console::LinkTypes;
+use command_line::{CheckInput, Invocation, MatchView, Request, request_of};
+use commands::{Choices, most_reads, perform};
+use console::{LinkTypes, is_expression};
 use core_loop::Cause;
 use core_threads::{Free, Halt};
 use devices::{FileInput, NOT_READ, Output};
 use engine_io::{EngineFault, INPUT_READS, Sink, Source};
-use hints::hint;
+use hints::{code_hint, code_of, hint};
+use link_names::link_number;
 use progress::Progress;
 use run_engine::RunFailure;
 use std::fs::File;
@@ -42,6 +44,15 @@ const USAGE: u8 = 2;
 
 /// The exit status for memory, a file that can't be opened, a device, or a run that halted.
 const FAILED: u8 = 3;
+
+/// The exit status of `match --quiet` where no packet was accepted.
+const NOTHING: u8 = 4;
+
+/// The verdict of an expression on the packets of which it is true, if no other is named: as tcpdump has it.
+const ACCEPT: u32 = 262_144;
+
+/// The number of Ethernet among link types.
+const ETHERNET: u32 = 1;
 
 /// The number by which Linux says that a descriptor isn't open: EBADF.
 const NOT_OPEN: i32 = 9;
@@ -79,20 +90,184 @@ fn without_flag(words: &[String]) -> &[String] {
     words
 }
 
-/// Opens the captures of a request in order, and its input, then performs it. Where standard input is the input, it is open: else the
-/// first capture would take its place.
+/// Performs a request on each of its inputs. Where CODE is the name of a file, its text is the filter.
 fn answer<T: Threads + Wait + Clock + Sync>(
     rt: &HostRuntime,
     threads: &T,
     invocation: &Invocation,
 ) -> u8 {
-    if invocation.input.is_none() && is_closed(rt.stdin()) {
+    let link = match invocation.link {
+        None => None,
+        Some(name) => match link_number(name) {
+            Some(number) => Some(number),
+            None => return bad_link(rt, name),
+        },
+    };
+    let choices = Choices {
+        link,
+        accept: invocation.accept.unwrap_or(ACCEPT),
+    };
+    if !invocation.files.code {
+        return answer_all(rt, threads, invocation, None, choices);
+    }
+    match code_in_file(rt, &invocation.request) {
+        Ok(code) => answer_all(rt, threads, invocation, Some(code.as_str()), choices),
+        Err(status) => status,
+    }
+}
+
+/// Performs a request on its inputs, one after the other, and answers the worst status. Under `--quiet` it ends at the first that has
+/// an accepted packet.
+fn answer_all<T: Threads + Wait + Clock + Sync>(
+    rt: &HostRuntime,
+    threads: &T,
+    invocation: &Invocation,
+    code: Option<&str>,
+    choices: Choices,
+) -> u8 {
+    let names = invocation.inputs.as_slice();
+    if names.len() < 2 {
+        let name = names.first().copied();
+        return answer_input(rt, threads, invocation, code, choices, name, None);
+    }
+    let quiet = is_quiet(&invocation.request);
+    let mut status = 0;
+    for name in names {
+        let label = if invocation.files.unnamed {
+            None
+        } else {
+            Some(*name)
+        };
+        let one = answer_input(rt, threads, invocation, code, choices, Some(*name), label);
+        if quiet && one == 0 {
+            return 0;
+        }
+        status = worse(status, one);
+    }
+    status
+}
+
+/// The worse of two statuses: a failure, then a refused input, then that nothing was accepted.
+fn worse(one: u8, other: u8) -> u8 {
+    if rank(one) < rank(other) { other } else { one }
+}
+
+/// How bad a status is.
+fn rank(status: u8) -> u8 {
+    match status {
+        0 => 0,
+        NOTHING => 1,
+        REFUSED => 2,
+        _ => 3,
+    }
+}
+
+/// Performs a request on the input of this name, or on standard input. A file that begins as a capture does is read as one. Where
+/// standard input is the input, it is open: else the first capture of a script would take its place.
+fn answer_input<T: Threads + Wait + Clock + Sync>(
+    rt: &HostRuntime,
+    threads: &T,
+    invocation: &Invocation,
+    code: Option<&str>,
+    choices: Choices,
+    name: Option<&str>,
+    label: Option<&str>,
+) -> u8 {
+    let name = name.filter(|name| *name != "-");
+    if name.is_none() && has_input(&invocation.request) && is_closed(rt.stdin()) {
         return failed(rt, NOT_READ);
     }
-    match open_files(rt, invocation.request.captures()) {
-        Ok(files) => answer_on(rt, threads, invocation, files),
-        Err(fault) => not_opened(rt, fault),
+    let files = match open_files(rt, invocation.request.captures()) {
+        Ok(files) => files,
+        Err(fault) => return not_opened(rt, &invocation.request, fault),
+    };
+    let mut input = match open_input(rt, &invocation.request, name) {
+        Ok(input) => input,
+        Err(fault) => return not_opened(rt, &invocation.request, fault),
+    };
+    let capture = name.is_some() && !invocation.files.digits && {
+        input.look();
+        input.is_capture()
+    };
+    match adapted(&invocation.request, code, capture) {
+        Some(request) => answer_with(rt, threads, &request, choices, name, label, input, files),
+        None => answer_with(
+            rt,
+            threads,
+            &invocation.request,
+            choices,
+            name,
+            label,
+            input,
+            files,
+        ),
     }
+}
+
+/// A request that takes CODE, with the text of a file in the place of that, if there is one, and on a capture, if the input is one. None
+/// for other requests.
+fn adapted<'a>(request: &Request<'a>, text: Option<&'a str>, capture: bool) -> Option<Request<'a>> {
+    match request {
+        Request::Match { code, pcap, stream } => Some(Request::Match {
+            code: text.unwrap_or(*code),
+            pcap: *pcap || capture,
+            stream: *stream,
+        }),
+        Request::View { code, pcap, view } => Some(Request::View {
+            code: text.unwrap_or(*code),
+            pcap: *pcap || capture,
+            view: *view,
+        }),
+        Request::Explain { code } => Some(Request::Explain {
+            code: text.unwrap_or(*code),
+        }),
+        Request::Keep { code, inverted } => Some(Request::Keep {
+            code: text.unwrap_or(*code),
+            inverted: *inverted,
+        }),
+        _ => None,
+    }
+}
+
+/// Whether a request reads an input.
+fn has_input(request: &Request) -> bool {
+    !matches!(request, Request::Compile { .. })
+}
+
+/// Whether a request is `match --quiet`.
+fn is_quiet(request: &Request) -> bool {
+    matches!(
+        request,
+        Request::View {
+            view: MatchView::Quiet,
+            ..
+        }
+    )
+}
+
+/// The text of the file that CODE names.
+fn code_in_file(rt: &HostRuntime, request: &Request) -> Result<String, u8> {
+    let name = code_of(request).unwrap_or("");
+    let mut file = match open_file(rt, name) {
+        Ok(file) => file,
+        Err(fault) => return Err(not_opened(rt, request, fault)),
+    };
+    let mut text = String::new(rt.alloc());
+    match file.read_to_string(&mut text) {
+        Ok(_) => Ok(text),
+        Err(_) => {
+            let _ = eprintln!(rt; "mkdemux: {name:?} can't be read as text");
+            Err(FAILED)
+        }
+    }
+}
+
+/// Says on standard error that a word names no link type.
+fn bad_link(rt: &HostRuntime, name: &str) -> u8 {
+    let _ = eprintln!(rt;
+        "error: invalid value '{name}' for '--link <LINK>': a number below 4294967296, or NULL, EN10MB, RAW, LOOP, LINUX_SLL, IPV4, IPV6 or LINUX_SLL2\n\nFor more information, try '--help'."
+    );
+    USAGE
 }
 
 /// Whether standard input isn't open. It reads no byte.
@@ -103,55 +278,44 @@ fn is_closed(mut stdin: Stdin) -> bool {
     }
 }
 
-/// Opens the input of a request, then performs it on that and these captures.
-fn answer_on<T: Threads + Wait + Clock + Sync>(
-    rt: &HostRuntime,
-    threads: &T,
-    invocation: &Invocation,
-    files: Vec<Source<File>>,
-) -> u8
-    requires { AllFresh files.items }
-{
-    match open_input(rt, invocation) {
-        Ok(input) => answer_with(rt, threads, invocation, input, files),
-        Err(fault) => not_opened(rt, fault),
-    }
-}
-
-/// Opens the file that is the input, or takes standard input.
+/// Opens the file of this name, or takes standard input.
 fn open_input<'a>(
     rt: &HostRuntime,
-    invocation: &Invocation<'a>,
+    request: &Request,
+    name: Option<&'a str>,
 ) -> Result<FileInput, OpenFault<'a>> {
-    match invocation.input {
+    match name {
         Some(name) => Ok(FileInput::named(open_file(rt, name)?)),
         None => {
-            invite(rt, &invocation.request);
+            invite(rt, request);
             Ok(FileInput::standard(rt.stdin()))
         }
     }
 }
 
-/// Performs a request on this input and these captures.
+/// Performs a request on this input and these captures. The lines that it prints begin with a label, if there is one.
 fn answer_with<T: Threads + Wait + Clock + Sync>(
     rt: &HostRuntime,
     threads: &T,
-    invocation: &Invocation,
+    request: &Request,
+    choices: Choices,
+    name: Option<&str>,
+    label: Option<&str>,
     input: FileInput,
     mut files: Vec<Source<File>>,
 ) -> u8
     requires { AllFresh files.items }
 {
-    let request = &invocation.request;
     let reads = most_reads(request);
     let mut source = Source::new(input, reads);
-    let mut sink = Sink::new(Output::new(rt.stdout()));
+    let mut sink = Sink::new(Output::new(rt.alloc(), rt.stdout(), label));
     let mut complaint = String::new(rt.alloc());
     let mut links = LinkTypes::None;
     match performed(
         rt,
         threads,
-        invocation,
+        request,
+        choices,
         &mut files,
         &mut source,
         &mut sink,
@@ -159,18 +323,19 @@ fn answer_with<T: Threads + Wait + Clock + Sync>(
         &mut links,
     ) {
         Ok(status) => {
-            warn(rt, invocation.link, links);
+            warn(rt, choices.link, links);
             complain(rt, complaint.as_str());
             if !sink.inner().is_used() {
                 remind(rt, request);
             }
-            if status == REFUSED {
-                explain(rt, request, &source, source.left() == reads);
+            advise(rt, request, &source, source.left() == reads, status);
+            if choices.link.is_none() && !sink.inner().has_accepted() {
+                name_link(rt, request, links, status);
             }
             status
         }
         Err(RunFailure::Engine(EngineFault::ReadFailed)) => {
-            not_read(rt, source.inner(), invocation, files.as_slice())
+            not_read(rt, source.inner(), request, name, files.as_slice())
         }
         Err(RunFailure::Engine(EngineFault::WriteFailed)) if sink.inner().is_closed() => FAILED,
         Err(failure) => not_done(rt, failure),
@@ -192,26 +357,25 @@ fn not_done(rt: &HostRuntime, failure: RunFailure) -> u8 {
 fn performed<T: Threads + Wait + Clock + Sync>(
     rt: &HostRuntime,
     threads: &T,
-    invocation: &Invocation,
+    request: &Request,
+    choices: Choices,
     files: &mut [Source<File>],
     source: &mut Source<FileInput>,
     sink: &mut Sink<Output>,
     complaint: &mut String,
     links: &mut LinkTypes,
 ) -> Result<u8, RunFailure>
-    requires fresh { IsFresh source.old (reads_of invocation.now.request) }
+    requires fresh { IsFresh source.old (reads_of request.now) }
     requires fresh_files { AllFresh files.old }
     requires good { sink.old.failed ≡ false }
 {
-    let request = &invocation.request;
-    let link = invocation.link;
     if !matches!(request, Request::Run { .. }) || !rt.stderr().is_terminal() {
         return perform(
             threads,
             rt.alloc(),
             &Free,
             request,
-            link,
+            choices,
             files,
             source,
             sink,
@@ -225,7 +389,7 @@ fn performed<T: Threads + Wait + Clock + Sync>(
         rt.alloc(),
         &progress,
         request,
-        link,
+        choices,
         files,
         source,
         sink,
@@ -252,10 +416,44 @@ fn complain(rt: &HostRuntime, complaint: &str) {
     }
 }
 
-/// Says on standard error what else is known of an input that was refused.
-fn explain(rt: &HostRuntime, request: &Request, source: &Source<FileInput>, is_unread: bool) {
-    if let Some(hint) = hint(request, source, is_unread) {
+/// Says on standard error what else is known of a CODE or an input that was refused, or of an input that looks like a capture.
+fn advise(
+    rt: &HostRuntime,
+    request: &Request,
+    source: &Source<FileInput>,
+    is_unread: bool,
+    status: u8,
+) {
+    if is_unread && status == REFUSED {
+        if let Some(code) = code_of(request) {
+            if let Some(hint) = code_hint(code) {
+                let _ = eprintln!(rt; "mkdemux: {hint}");
+            } else if File::open(rt, code).is_ok() {
+                let _ = eprintln!(rt;
+                    "mkdemux: {code:?} is the name of a file: CODE comes before FILE, and --code reads it from a file"
+                );
+            }
+            return;
+        }
+    }
+    if let Some(hint) = hint(request, source, is_unread, status == REFUSED) {
         let _ = eprintln!(rt; "mkdemux: {hint}");
+    }
+}
+
+/// Says on standard error of which link type a capture is, where a CODE in decimal text accepted nothing of it that is most often
+/// written for another.
+fn name_link(rt: &HostRuntime, request: &Request, links: LinkTypes, status: u8) {
+    let LinkTypes::One(link) = links else {
+        return;
+    };
+    let Some(code) = code_of(request) else {
+        return;
+    };
+    if link != ETHERNET && !is_expression(code.as_bytes()) && (status == 0 || status == NOTHING) {
+        let _ = eprintln!(rt;
+            "mkdemux: no packet was accepted: the capture is of link type {link}, and CODE may be written for another, as 1, Ethernet"
+        );
     }
 }
 
@@ -296,13 +494,18 @@ fn invite(rt: &HostRuntime, request: &Request) {
         Request::Match { pcap: true, .. }
         | Request::View { pcap: true, .. }
         | Request::Keep { .. }
-        | Request::Dump => "a capture",
+        | Request::Dump { .. } => "a capture",
         Request::Match { .. } | Request::View { .. } | Request::Explain { .. } => {
             "packets, a line of hexadecimal digits each"
         }
-        Request::Check { .. } | Request::Graph => "a filter in assembler text",
+        Request::Check { input, .. } | Request::Graph { input } => match input {
+            CheckInput::Assembler => "a filter in assembler text",
+            CheckInput::Insns => "a filter as tcpdump -d or -dd prints it",
+            CheckInput::Decimal => "a filter in decimal text",
+        },
         Request::Draw { .. } => "what sim or run printed",
         Request::Sim { .. } | Request::Run { .. } => "a script",
+        Request::Compile { .. } => return,
     };
     if rt.stdin().is_terminal() {
         let _ = eprintln!(rt; "mkdemux: reading {awaited} from the terminal, to its end (Ctrl-D)");
@@ -384,16 +587,17 @@ fn not_utf8(rt: &HostRuntime) -> u8 {
 fn not_read(
     rt: &HostRuntime,
     input: &FileInput,
-    invocation: &Invocation,
+    request: &Request,
+    name: Option<&str>,
     files: &[Source<File>],
 ) -> u8 {
-    for (name, file) in invocation.request.captures().iter().zip(files.iter()) {
+    for (name, file) in request.captures().iter().zip(files.iter()) {
         if file.has_failed() {
             let _ = eprintln!(rt; "mkdemux: {name:?} can't be read");
             return FAILED;
         }
     }
-    if let Some(name) = invocation.input {
+    if let Some(name) = name {
         let _ = eprintln!(rt; "mkdemux: {name:?} can't be read");
         return FAILED;
     }
@@ -406,11 +610,15 @@ fn failed(rt: &HostRuntime, why: &str) -> u8 {
     FAILED
 }
 
-/// Says on standard error which file can't be opened, and why.
-fn not_opened(rt: &HostRuntime, fault: OpenFault) -> u8 {
+/// Says on standard error which file can't be opened, and why. It may be a word of an expression without quotes.
+fn not_opened(rt: &HostRuntime, request: &Request, fault: OpenFault) -> u8 {
     let _ = match fault {
         OpenFault::Refused(name, error) => {
-            eprintln!(rt; "mkdemux: {name:?} can't be opened: {error}")
+            let _ = eprintln!(rt; "mkdemux: {name:?} can't be opened: {error}");
+            match code_of(request) {
+                Some(code) if is_expression(code.as_bytes()) => eprintln!(rt; "mkdemux: put the expression in quotes"),
+                _ => Ok(()),
+            }
         }
         OpenFault::Directory(name) => eprintln!(rt; "mkdemux: {name:?} is a directory"),
         OpenFault::NoMemory => eprintln!(rt; "mkdemux: out of memory"),

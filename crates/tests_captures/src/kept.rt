@@ -2,12 +2,13 @@
 
 use crate::blocks::{ENDS, LITTLE, both};
 use crate::facts::{equal, equal_at, holds};
+use crate::pieces::Pieces;
 use console::{LinkTypes, STREAM_READS};
 use engine_io::{EngineFault, Sink, Source};
 use keep_engine::{Wanted, run_keep};
 use std::alloc::Global;
 use std::io;
-use std::io::{Read, Write};
+use std::io::Write;
 use std::process::Abort;
 
 /// A filter that accepts every packet.
@@ -18,22 +19,6 @@ const NONE: &str = "1,6 0 0 0";
 
 /// A filter that accepts packets whose first byte is 161.
 const SIMPLE: &str = "4,48 0 0 0,21 0 1 161,6 0 0 1,6 0 0 0";
-
-/// A reader that gives at most `step` bytes a read.
-#[derive(Drop)]
-struct Pieces<'a> {
-    bytes: &'a [u8],
-    step: usize,
-}
-
-impl Read for Pieces<'_> {
-    fn read(&mut self, buf: &mut [u8]) -> io::Result<usize> {
-        let count = self.step.min(self.bytes.len()).min(buf.len());
-        buf[..count].copy_from_slice(&self.bytes[..count]);
-        self.bytes = &self.bytes[count..];
-        Ok(count)
-    }
-}
 
 /// What `keep` answers, writes and says.
 #[derive(Debug, Drop, PartialEq)]

@@ -1,4 +1,4 @@
-//! Tests of filters and captures by their public calls: instructions, the verifier, the machine, programs decoded before, the assembler, captures.
+//! Tests of filters and captures by their public calls: instructions, the verifier, the machine, programs decoded before, the assembler, listings, captures.
 #![tactic(auto)]
 
 #[cfg(test)]
@@ -9,6 +9,8 @@ mod captures;
 mod facts;
 #[cfg(test)]
 mod instructions;
+#[cfg(test)]
+mod listings;
 #[cfg(test)]
 mod predecoded;
 #[cfg(test)]

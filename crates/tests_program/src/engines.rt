@@ -4,7 +4,8 @@ ghost use Rattle.std.specs.Prelude.{IfOk};
 ghost use Rattle.script_input.specs.Inputs.{AllFresh};
 
 use console::{
-    LinkTypes, PacketForm, STREAM_READS, View, run_check, run_dump, run_match, run_stream, run_view,
+    CheckInput, ETHERNET, LinkTypes, PacketForm, STREAM_READS, View, run_check, run_dump,
+    run_dump_stream, run_match, run_stream, run_view,
 };
 use core_threads::Free;
 use draw_engine::run_draw;
@@ -18,6 +19,9 @@ use std::thread::Threads;
 use std::time::Clock;
 use world_core::Channel;
 
+/// The verdict on packets that an expression accepts.
+const ACCEPT: u32 = 262_144;
+
 /// A command that reads standard input alone. The flags are `--pcap` and `--asm`.
 #[derive(Clone, Copy)]
 pub enum Command<'a> {
@@ -26,8 +30,14 @@ pub enum Command<'a> {
     View(&'a str, bool, View),
     Explain(&'a str),
     Check(bool),
-    Graph,
+    /// `check` of another text: assembler text is printed where the flag is set.
+    Read(CheckInput, bool),
+    Graph(CheckInput),
     Dump,
+    /// `dump --time`.
+    Stamped,
+    /// `dump --stream`, with time stamps or without.
+    DumpStream(bool),
     Draw,
 }
 
@@ -39,15 +49,18 @@ pub fn run<R: Read, W: Write>(
     writer: &mut W,
 ) -> Result<u8, EngineFault> {
     let mut sink = Sink::new(writer);
+    let mut complaint = String::new(alloc);
     if let Command::Stream(code, pcap) = command {
         let mut source = Source::new(reader, STREAM_READS);
         return run_stream(
             alloc,
             code.as_bytes(),
+            ACCEPT,
             form(pcap),
             &mut LinkTypes::None,
             &mut source,
             &mut sink,
+            &mut complaint,
         );
     }
     if let Command::View(code, pcap, view) = command {
@@ -55,12 +68,18 @@ pub fn run<R: Read, W: Write>(
         return run_view(
             alloc,
             code.as_bytes(),
+            ACCEPT,
             form(pcap),
             view,
             &mut LinkTypes::None,
             &mut source,
             &mut sink,
+            &mut complaint,
         );
+    }
+    if let Command::DumpStream(stamped) = command {
+        let mut source = Source::new(reader, STREAM_READS);
+        return run_dump_stream(alloc, None, stamped, &mut source, &mut sink);
     }
     let mut source = Source::new(reader, INPUT_READS);
     match command {
@@ -69,16 +88,23 @@ pub fn run<R: Read, W: Write>(
             run_match(
                 alloc,
                 code.as_bytes(),
+                ACCEPT,
                 form(pcap),
                 links,
                 &mut source,
                 &mut sink,
+                &mut complaint,
             )
         }
         Command::Explain(code) => run_explain(alloc, code.as_bytes(), &mut source, &mut sink),
-        Command::Check(asm) => run_check(alloc, asm, &mut source, &mut sink),
-        Command::Graph => run_graph(alloc, &mut source, &mut sink),
-        Command::Dump => run_dump(alloc, None, &mut source, &mut sink),
+        Command::Check(asm) => {
+            run_check(alloc, CheckInput::Assembler, asm, &mut source, &mut sink)
+        }
+        Command::Read(input, asm) => run_check(alloc, input, asm, &mut source, &mut sink),
+        Command::Graph(input) => run_graph(alloc, input, &mut source, &mut sink),
+        Command::Dump => run_dump(alloc, None, false, &mut source, &mut sink),
+        Command::Stamped => run_dump(alloc, None, true, &mut source, &mut sink),
+        Command::DumpStream(stamped) => run_dump(alloc, None, stamped, &mut source, &mut sink),
         Command::Draw => run_draw(alloc, false, &mut source, &mut sink),
     }
 }
@@ -88,7 +114,7 @@ fn form(pcap: bool) -> PacketForm {
     if pcap {
         PacketForm::Capture(None)
     } else {
-        PacketForm::Digits
+        PacketForm::Digits(ETHERNET)
     }
 }
 

@@ -13,7 +13,7 @@ const HEADER: &str = "d4c3b2a1020004000000000000000000ffff000001000000";
 const FIRST: Command<'static> = Command::Match("2,48 0 0 0,22 0 0 0", true);
 
 /// Commands and their captures in hexadecimal digits, each with its status and what is shown.
-static CAPTURES: [(Command<'static>, &str, &str, u8, &str); 17] = [
+static CAPTURES: [(Command<'static>, &str, &str, u8, &str); 23] = [
     (Command::Dump, "", "", 1, "fault TruncatedHeader\n"),
     (
         Command::Dump,
@@ -63,6 +63,49 @@ static CAPTURES: [(Command<'static>, &str, &str, u8, &str); 17] = [
         "a1b2c3d40002000400000000000000000001000000000001",
         0,
         "pcap big micro snaplen 65536 network 1\n",
+    ),
+    // Time stamps of microseconds, and of nanoseconds.
+    (
+        Command::Stamped,
+        HEADER,
+        "01000000020000000200000002000000abcd",
+        0,
+        "pcap little micro snaplen 65535 network 1\n1 1.000002 captured 2 original 2 abcd\n",
+    ),
+    (
+        Command::Stamped,
+        "",
+        "a1b23c4d000200040000000000000000000100000000000100000007000000080000000000000005",
+        0,
+        "pcap big nano snaplen 65536 network 1\n1 7.000000008 captured 0 original 5 -\n",
+    ),
+    (
+        Command::DumpStream(false),
+        "",
+        "",
+        1,
+        "fault TruncatedHeader\n",
+    ),
+    (
+        Command::DumpStream(true),
+        HEADER,
+        "01000000020000000200000002000000abcd02000000000000000100000004000000ef",
+        0,
+        "pcap little micro snaplen 65535 network 1\n1 1.000002 captured 2 original 2 abcd\n2 2.000000 captured 1 original 4 ef\n",
+    ),
+    (
+        Command::DumpStream(false),
+        HEADER,
+        "00000000000000000200000002000000abcd0000000000",
+        1,
+        "pcap little micro snaplen 65535 network 1\n1 captured 2 original 2 abcd\nfault TruncatedRecord 42\n",
+    ),
+    (
+        Command::DumpStream(false),
+        HEADER,
+        "00000000000000000100040001000400",
+        1,
+        "pcap little micro snaplen 65535 network 1\nfault TooLong 24\n",
     ),
     (Command::Dump, "", "d4c3b2a2", 1, "fault BadMagic\n"),
     (

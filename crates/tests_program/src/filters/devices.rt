@@ -3,7 +3,7 @@
 use crate::devices::{Pieces, Taker};
 use crate::engines::{Command, run};
 use crate::facts::equal_at;
-use console::View;
+use console::{CheckInput, View};
 use engine_io::EngineFault;
 use std::alloc::Global;
 
@@ -37,7 +37,7 @@ fn a_read_that_fails_leaves_nothing_written(rt: HostRuntime) {
         (Command::Match(ARP_CODE, false), PACKETS, 1, 57),
         (Command::Check(false), ARP, 1, 47),
         (Command::Dump, CAPTURE, 1, 48),
-        (Command::Graph, b"", 1, 1),
+        (Command::Graph(CheckInput::Assembler), b"", 1, 1),
         (Command::Explain(ARP_CODE), b"", 1, 1),
         (Command::Draw, b"\n", 2, 2),
     ];

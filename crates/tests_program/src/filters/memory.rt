@@ -4,7 +4,7 @@ use crate::devices::Pieces;
 use crate::engines::{Command, run};
 use crate::facts::{equal, holds};
 use crate::page::Page;
-use console::View;
+use console::{CheckInput, View};
 use engine_io::EngineFault;
 use std::alloc::Global;
 use std::process::Abort;
@@ -111,6 +111,99 @@ static CHECKS: [Row; 3] = [
         "line 1: NoLabel\n",
     ),
 ];
+
+/// What `tcpdump` prints of `arp` on Ethernet, in its three forms.
+const LISTING: &[u8] =
+    b"(000) ldh      [12]\n(001) jeq      #0x806           jt 2\tjf 3\n(002) ret      #262144\n(003) ret      #0\n";
+
+const INITIALIZERS: &[u8] =
+    b"{ 0x28, 0, 0, 0x0000000c },\n{ 0x15, 0, 1, 0x00000806 },\n{ 0x6, 0, 0, 0x00040000 },\n{ 0x6, 0, 0, 0x00000000 },\n";
+
+const DECIMAL: &[u8] = b"4\n40 0 0 12\n21 0 1 2054\n6 0 0 262144\n6 0 0 0\n";
+
+const DECIMAL_SHOWN: &str = "4\n40 0 0 12\n21 0 1 2054\n6 0 0 262144\n6 0 0 0\n";
+
+const ASM_SHOWN: &str = "l0: ldh [12]\nl1: jeq #2054, l2, l3\nl2: ret #262144\nl3: ret #0\n";
+
+static READS: [Row; 12] = [
+    (
+        Command::Read(CheckInput::Listing, false),
+        LISTING,
+        0,
+        DECIMAL_SHOWN,
+    ),
+    (
+        Command::Read(CheckInput::Listing, true),
+        LISTING,
+        0,
+        ASM_SHOWN,
+    ),
+    (
+        Command::Read(CheckInput::Listing, false),
+        INITIALIZERS,
+        0,
+        DECIMAL_SHOWN,
+    ),
+    (
+        Command::Read(CheckInput::Decimal, true),
+        DECIMAL,
+        0,
+        ASM_SHOWN,
+    ),
+    (
+        Command::Read(CheckInput::Decimal, false),
+        DECIMAL,
+        0,
+        DECIMAL_SHOWN,
+    ),
+    (
+        Command::Read(CheckInput::Listing, false),
+        b"(000) ldh [12]\n\n(002) ret #0\n",
+        1,
+        "line 3: BadLine\n",
+    ),
+    (
+        Command::Read(CheckInput::Decimal, true),
+        b"2,6 0 0 1",
+        1,
+        "code CountMismatch\n",
+    ),
+    (
+        Command::Read(CheckInput::Decimal, true),
+        b"2,6 0 0 1,256 0 0 1",
+        1,
+        "refused BadCode pc 1\n",
+    ),
+    (
+        Command::Read(CheckInput::Decimal, true),
+        b"3,21 0 2 1,5 0 0 1,255 0 0 0",
+        1,
+        "refused JumpOut pc 0\n",
+    ),
+    (
+        Command::Read(CheckInput::Decimal, false),
+        b"1,255 0 0 0",
+        0,
+        "1\n255 0 0 0\n",
+    ),
+    (
+        Command::Graph(CheckInput::Decimal),
+        b"1,6 0 0 1",
+        0,
+        "digraph filter {\n  node [shape=box] [fontname=monospace]\n  edge [fontname=monospace]\n  n0 [label=\"l0: ret #1\"] [shape=ellipse]\n}\n",
+    ),
+    (
+        Command::Graph(CheckInput::Listing),
+        b"(000) ret #1\n(001) ret 1\n",
+        1,
+        "line 2: BadLine\n",
+    ),
+];
+
+#[test]
+fn other_texts_with_a_refused_growth(rt: HostRuntime) {
+    show_or_end(&rt, rt.alloc(), &READS);
+}
 
 #[test]
 fn checks_with_a_refused_growth(rt: HostRuntime) {

@@ -21,4 +21,5 @@ returns c =
     let four = c.in_ok-command-4.ensures _ _ c.keeping.ensures ∙ ap₂ with_subcommand three refl in
     let five = c.in_ok-command-5.ensures _ _ c.simulating.ensures ∙ ap₂ with_subcommand four refl in
     let six = c.in_ok-command-6.ensures _ _ c.running.ensures ∙ ap₂ with_subcommand five refl in
-    IfOk-weaker c.with_command-7.result _ _ (λ r is. is ∙ ap₂ with_subcommand six refl) (c.with_command-7.ensures _ _ c.drawing.ensures)
+    let seven = c.in_ok-command-7.ensures _ _ c.drawing.ensures ∙ ap₂ with_subcommand six refl in
+    IfOk-weaker c.with_command-8.result _ _ (λ r is. is ∙ ap₂ with_subcommand seven refl) (c.with_command-8.ensures _ _ c.compiling.ensures)

@@ -5,7 +5,7 @@ use Rattle.clap.specs.Words.{first_of, found_of, rows_of}
 use Rattle.clap.proofs.WalkLemmas.{first_value-rows}
 use Rattle.command_line.specs.Requests.{IsFlag}
 use Rattle.command_line.proofs.Readings.{is_flag, or_else}
-use Rattle.command_line.proofs.request.asked.Goals.{in-match+else-get_flag+in-Some, in-match+else-get_flag+in-None, in-keep, in-check+else-get_flag-2, in-dump, in-sim+in_ok-files-in-sim, in-run+in_ok-files-in-run, in-draw}
+use Rattle.command_line.proofs.request.asked.Goals.{in-match+else-get_flag+in-Some, in-match+else-get_flag+in-None, in-keep, in-check+else-get_flag-2, in-dump, in-sim+in_ok-texts-in-sim, in-run+in_ok-texts-in-run, in-draw, in-compile+in_ok-texts-in-compile}
 use Rattle.command_line.proofs.request.asked.Goals as goal
 
 abbrev text : Bor (List ℕ) → List ℕ
@@ -22,7 +22,7 @@ returns-then-get_flag c =
 pub returns-then-get_flag-2 : goal.returns-then-get_flag-2
 returns-then-get_flag-2 c =
     let given = is_flag c.args.found.now (codes "graph") c.get_flag-in-check.result c.get_flag-in-check.ensures.value c.get_flag-in-check.ensures.other in
-    (search rules, subst (λ flag. IsFlag (codes "graph") (rows_of (found_of c.args.found.now)) flag) c.if-get_flag-2.true given)
+    (search rules, c.check_input-input.ensures, subst (λ flag. IsFlag (codes "graph") (rows_of (found_of c.args.found.now)) flag) c.if-get_flag-2.true given)
 
 pub returns : goal.returns
 returns c = elim c.match-name.branch [
@@ -64,14 +64,20 @@ returns c = elim c.match-name.branch [
       let graph = is_flag c.args.found.now (codes "graph") w.get_flag-in-check.result w.get_flag-in-check.ensures.value w.get_flag-in-check.ensures.other in
       rw w.result-is (
         search rules,
+        w.check_input-input.ensures,
         subst (λ flag. IsFlag (codes "graph") (rows_of (found_of c.args.found.now)) flag) w.if-get_flag-2.false graph,
         is_flag c.args.found.now (codes "asm") w.get_flag-in-check-2.result w.get_flag-in-check-2.ensures.value w.get_flag-in-check-2.ensures.other,
       )
-  | in-dump w ↦ rw w.result-is (search rules)
-  | in-sim+in_ok-files-in-sim w ↦ rw w.result-is (search rules, w.in_ok-files-in-sim.ensures)
-  | in-run+in_ok-files-in-run w ↦ rw w.result-is (search rules, w.in_ok-files-in-run.ensures)
+  | in-dump w ↦ rw w.result-is (
+    search rules,
+    is_flag c.args.found.now (codes "stream") w.get_flag-in-dump.result w.get_flag-in-dump.ensures.value w.get_flag-in-dump.ensures.other,
+    is_flag c.args.found.now (codes "time") w.get_flag-in-dump-2.result w.get_flag-in-dump-2.ensures.value w.get_flag-in-dump-2.ensures.other,
+  )
+  | in-sim+in_ok-texts-in-sim w ↦ rw w.result-is (search rules, w.in_ok-texts-in-sim.ensures)
+  | in-run+in_ok-texts-in-run w ↦ rw w.result-is (search rules, w.in_ok-texts-in-run.ensures)
   | in-draw w ↦ rw w.result-is (
     search rules,
     is_flag c.args.found.now (codes "text") w.get_flag-in-draw.result w.get_flag-in-draw.ensures.value w.get_flag-in-draw.ensures.other,
   )
+  | in-compile+in_ok-texts-in-compile w ↦ rw w.result-is (search rules, w.in_ok-texts-in-compile.ensures, w.listing_of.ensures)
 ]

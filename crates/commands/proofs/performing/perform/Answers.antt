@@ -13,7 +13,7 @@ returns-in-Run-clause-shown g c = rw c.in-Run.is (shows_script c.run_script.resu
 pub returns-in_ok-perform_alone-in_default-clause-shown : goal.returns-in_ok-perform_alone-in_default-clause-shown
 returns-in_ok-perform_alone-in_default-clause-shown g c =
     let s = c.in_ok-perform_alone-in_default.ensures.shown in
-    (s.0, s.1, s.2, s.3, shown_alone c.args.request.now c.args.link g.R.Read.remaining c.args.reader.now c.perform_alone.new.reader g.F.Read.remaining c.args.captures.now c.args.captures.now _ s.0 s.2 s.4)
+    (s.0, s.1, s.2, s.3, shown_alone c.args.request.now c.args.choices g.R.Read.remaining c.args.reader.now c.perform_alone.new.reader g.F.Read.remaining c.args.captures.now c.args.captures.now _ s.0 s.2 s.4)
 
 pub returns-in_err-perform_alone-in_default : goal.returns-in_err-perform_alone-in_default
 returns-in_err-perform_alone-in_default g c =

@@ -6,7 +6,7 @@ use Rattle.keep_engine.proofs.sifting.take_whole.Goals as goal
 pub returns-in_ok-keep_one-in-Record : goal.returns-in_ok-keep_one-in-Record
 returns-in_ok-keep_one-in-Record c =
     let is = rw c.as_slice.ensures.value at c.in-Record.ensures in
-    let one = rw c.as_slice-in-Record.ensures.value at c.in_ok-keep_one-in-Record.ensures in
+    let one = rw (c.as_slice-in-Record.ensures.value, c.savefile_link.ensures) at c.in_ok-keep_one-in-Record.ensures in
     rw c.clear.ensures.items (takes_whole _ _ _ c.args.part.now.items (take c.in-Record.length c.args.part.now.items) _ _ c.in-Record.packet
     (take_all c.in-Record.length c.args.part.now.items (omega (arith, c.if-length-len.true, c.len.ensures, c.args.part.now.ok.0))) is.1 one)
 
