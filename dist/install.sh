@@ -142,8 +142,8 @@ put_libraries() {
 # no other name.
 make_shared() {
     echo '{ global: mkdemux_*; local: *; };' > "$work/names"
-    ${CC:-cc} -O2 -fPIC -shared -Iinclude -o "$work/libmkdemux.so.0" ../c/shared.c -Wl,--whole-archive $libs/libmkdemux.a \
-        $libs/libmkdemux_cores.a -Wl,--no-whole-archive -Wl,-soname,libmkdemux.so.0 "-Wl,--version-script=$work/names" -Wl,-z,defs ||
+    ${CC:-cc} -O2 -fPIC -shared -Iinclude -o "$work/libmkdemux.so.1" ../c/shared.c -Wl,--whole-archive $libs/libmkdemux.a \
+        $libs/libmkdemux_cores.a -Wl,--no-whole-archive -Wl,-soname,libmkdemux.so.1 "-Wl,--version-script=$work/names" -Wl,-z,defs ||
         refuse "the C compiler makes no shared library of $libs/libmkdemux.a and $libs/libmkdemux_cores.a"
     version=$(sed -n 's/^#define MKDEMUX_VERSION "\(.*\)"$/\1/p' include/mkdemux.h)
     cat > "$work/mkdemux-shared.pc" <<PC
@@ -170,12 +170,12 @@ share() {
         }
         make_shared
     fi
-    $act 755 "$work/libmkdemux.so.0" lib/libmkdemux.so.0
+    $act 755 "$work/libmkdemux.so.1" lib/libmkdemux.so.1
     $act 644 "$work/mkdemux-shared.pc" lib/pkgconfig/mkdemux-shared.pc
     link=$root$prefix/lib/libmkdemux.so
     if [ $act = put ]; then
         [ -h "$link" ] || [ ! -d "$link" ] || refuse "can't write $link: it is a folder"
-        ln -sfn libmkdemux.so.0 "$link" || refuse "can't write $link"
+        ln -sfn libmkdemux.so.1 "$link" || refuse "can't write $link"
         say "$link"
     elif [ -h "$link" ]; then
         rm "$link" || refuse "can't remove $link"

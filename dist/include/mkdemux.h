@@ -19,7 +19,7 @@
 
 /* The version of this header, and of the archive that it came with. (mkdemux_cores.h has it too, and what follows.) */
 #ifndef MKDEMUX_VERSION
-#define MKDEMUX_VERSION "0.1.0"
+#define MKDEMUX_VERSION "0.2.0"
 #endif
 
 /* Calls that are plain C over the proved ones. libmkdemux.so has all of them as functions, too. */

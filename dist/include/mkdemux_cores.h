@@ -24,7 +24,9 @@
  *   the old copy is never used again.)
  * - There is one call at a time on a core. A core may go from thread to thread, if the first thread's calls
  *   on it happen before the second's: by a lock, by the start or the join of a thread, or by an atomic.
- *   Calls on different cores may run at the same time, also on cores of one machine.
+ *   Calls on different cores may run at the same time, also on cores of one machine. (Nothing locks a core. Where two
+ *   threads call on one core at a time all the same, the second may be answered CLOSED, since a call takes the core
+ *   out of its struct while it runs, or both may write to the core, and anything may follow.)
  * - A pointer isn't NULL, except for an array with no elements. An array with a `count` has so many values,
  *   is aligned for its type, and isn't written by others until the call returns. An output overlaps no
  *   other argument.
@@ -46,7 +48,7 @@
  * turn named it, and after a turn of its own with `more`: where no core is left to turn so, all are decided. Core 0
  * takes the requests of all cores in turn. NOT PROVED: the same with packets between, that a thread runs, that one
  * thread sees what another wrote, and time. A core that nobody turns holds up every change of the machine; packets
- * are still received.
+ * are still received. If it was closed, the others say so: `closed` of a turn, and PEER_CLOSED.
  *
  * MEMORY is taken by malloc and realloc and freed by free. mkdemux_boot, mkdemux_boot_limits, mkdemux_turn,
  * mkdemux_settle and mkdemux_ask_.. take memory, and so do mkdemux_receive and mkdemux_receive_burst for the first
@@ -60,7 +62,7 @@
 
 /* The version of this header, and of the archive that it came with. */
 #ifndef MKDEMUX_VERSION
-#define MKDEMUX_VERSION "0.1.0"
+#define MKDEMUX_VERSION "0.2.0"
 #endif
 
 /* Calls that are plain C over the proved ones. libmkdemux.so has all of them as functions, too. */
@@ -119,10 +121,30 @@ enum mkdemux_core_answer {
     MKDEMUX_CORE_BAD_RIGHTS = 10, /* of mkdemux_ask_mint: rights that aren't 1, 2 or 3 */
     MKDEMUX_CORE_NO_FILTER = 11,  /* of mkdemux_filter_code: no filter of this id is listed */
     MKDEMUX_CORE_NOT_MACHINE = 12, /* of mkdemux_settle: not the cores of one machine, each in its place */
-    MKDEMUX_CORE_BAD_LIMITS = 13   /* of mkdemux_boot_limits: a total of 0 or above 65,536, or a share above it */
+    MKDEMUX_CORE_BAD_LIMITS = 13,  /* of mkdemux_boot_limits: a total of 0 or above 65,536, or a share above it */
+    MKDEMUX_CORE_PEER_CLOSED = 15  /* of requests at a core other than 0: core 0 is closed. Of mkdemux_turn at core 0: a
+                                      change can't end, since a core that would have to answer is closed */
 };
 
 /* ---- A machine ---- */
+
+/* Gives the machine of these cores a name, by which the calls that take all cores of a machine tell its cores from others.
+ * mkdemux_boot and mkdemux_boot_limits do so. REQUIRED: no other machine with an open core has this name. Proved: each
+ * open core has the name, and all else is as it was. */
+void mkdemux_name_cores(mkdemux_core *cores, size_t count, uint64_t name);
+
+/* Names the machine of these cores, which were just opened, by the places where they lie in memory, mixed to one number.
+ * No two machines with an open core have all cores in the same places, so but for one chance in 2^64 their names differ. */
+MKDEMUX_CALL void mkdemux_name_by_places(mkdemux_core *cores, size_t count)
+{
+    uint64_t name = count;
+    size_t i;
+    for (i = 0; i < count; i++) {
+        name = (name ^ (uint64_t)(uintptr_t)cores[i].at) * 0x9e3779b97f4a7c15u;
+        name ^= name >> 32;
+    }
+    mkdemux_name_cores(cores, count, name);
+}
 
 /* mkdemux_boot calls this, with the length of each array. It checks NOT_CORES first, then NO_ROOM, if
  * the lengths differ, then OPEN. */
@@ -136,7 +158,9 @@ uint32_t mkdemux_boot_cores(const uint32_t *budgets, size_t count, mkdemux_core 
  * exactly for a count that isn't 1 to 8. Takes memory. */
 MKDEMUX_CALL uint32_t mkdemux_boot(const uint32_t *budgets, size_t count, mkdemux_core *cores)
 {
-    return mkdemux_boot_cores(budgets, count, cores, count);
+    uint32_t answer = mkdemux_boot_cores(budgets, count, cores, count);
+    if (answer == MKDEMUX_CORE_OK) mkdemux_name_by_places(cores, count);
+    return answer;
 }
 
 /* How much a machine may have: of all domains together, and of each one. A domain's share of 0 is the whole. A
@@ -159,13 +183,16 @@ uint32_t mkdemux_boot_limits_cores(uint32_t caps, uint32_t filters, uint32_t dom
  * BAD_LIMITS: a total is 0 or above 65,536, or a domain's share is above the whole. None was touched. */
 MKDEMUX_CALL uint32_t mkdemux_boot_limits(const struct mkdemux_limits *limits, const uint32_t *budgets, size_t count, mkdemux_core *cores)
 {
-    return mkdemux_boot_limits_cores(limits->caps, limits->filters, limits->domain_caps, limits->domain_filters, limits->domain_insns,
-                                     budgets, count, cores, count);
+    uint32_t answer = mkdemux_boot_limits_cores(limits->caps, limits->filters, limits->domain_caps, limits->domain_filters,
+                                                limits->domain_insns, budgets, count, cores, count);
+    if (answer == MKDEMUX_CORE_OK) mkdemux_name_by_places(cores, count);
+    return answer;
 }
 
 /* Closes a core, and frees all its memory. In C and C++ it has the shorter name mkdemux_close, too. Does nothing for
  * a closed core. The other cores of its machine may be closed in any order, and still receive; but they make no
- * change without this one. A request that core 0 refuses is still answered while core 0 is open. */
+ * change without this one. A request that core 0 refuses is still answered while core 0 is open. Core 0 learns of it
+ * by the `closed` of its turns, and the others of core 0. */
 void mkdemux_close_core(mkdemux_core *core);
 
 /* ---- Turns ---- */
@@ -223,6 +250,8 @@ typedef struct mkdemux_turned {
     uint64_t woken;    /* the cores that this turn sent something, or made room for: 1 << i for core i. These may
                           now do what they couldn't */
     uint32_t more;     /* 1: a further turn of this core may do something by itself. 0: it can't */
+    uint64_t closed;   /* the cores that this core knew to be closed as the turn began: 1 << i for core i. Core 0 knows of
+                          each core, another core only of core 0 */
 } mkdemux_turned;
 
 /* Does at most one thing: takes a message from another core, or else begins the core's next request. Each turn, even
@@ -232,19 +261,23 @@ typedef struct mkdemux_turned {
  * otherwise its thread may sleep. A thread that turns its core in a loop needs neither.
  * OK: `turned` says what it did. The n-th DECISION of a core is on its n-th request. IDLE: no message was
  * complete, and no request could begin. NO_MEMORY: nothing was done; a later turn may do it. STOPPED,
- * SPENT: nothing was done, nor will a later turn do anything.
+ * SPENT: nothing was done, nor will a later turn do anything. PEER_CLOSED: as IDLE, at core 0 alone. The change that
+ * it began can't end, and so no other can begin: core 0 waits for a core that is closed to vote or to acknowledge, and
+ * nothing of that core has come that wasn't read. What its packets get stays as it is. Close the machine.
  * Proved: with OK the core went on by one event of the protocol, and a reported decision is the one on its
  * oldest request that had none, with that decision's number, version, id, rule, place and core; STOPPED, SPENT and
  * NO_MEMORY are answered only for a cause that holds. `woken` names each core that got a line or room from this
  * turn, and, unless the core had stopped before, no other; `more` is 1 exactly for OK and NO_MEMORY; with IDLE, what
- * waits to go out waits for room, and all that had come has been read, unless a message waits for such room.
+ * waits to go out waits for room, and all that had come has been read, unless a message waits for such room. PEER_CLOSED
+ * has all that is proved of IDLE, and core 0 waits for the answer of a core that `closed` names; `closed` names only
+ * cores that this core has a link to. NOT PROVED: that these are closed, and that all others are open.
  * `turned` is written by every answer: for a closed core nothing was done, and `more` is 0. Takes memory. */
 uint32_t mkdemux_turn(mkdemux_core *core, mkdemux_turned *turned);
 
 /* Turns the core until a turn does nothing. `*woken` says which cores these turns named, as `turned.woken` does: each of
  * them has to be turned, too. `decided`, if it isn't NULL, is called for each DECISION, in order, with `data`. The answer
- * is that of the last turn. IDLE: the core has to be turned again after it was asked, or after another core's turn named
- * it. NO_MEMORY: call again. CLOSED, STOPPED, SPENT: no further turn does anything. Takes memory. */
+ * is that of the last turn. IDLE, PEER_CLOSED: the core has to be turned again after it was asked, or after another core's
+ * turn named it. NO_MEMORY: call again. CLOSED, STOPPED, SPENT: no further turn does anything. Takes memory. */
 MKDEMUX_CALL uint32_t mkdemux_turn_all(mkdemux_core *core, uint64_t *woken,
     void (*decided)(void *data, const mkdemux_turned *turned), void *data)
 {
@@ -266,13 +299,18 @@ MKDEMUX_CALL uint32_t mkdemux_turn_all(mkdemux_core *core, uint64_t *woken,
  * NO_MEMORY, SPENT: a core has no memory, or no number left, for what it would do next, or there is no memory for
  * the call's own list of the cores. All that was done is kept, and another call goes on from there.
  * CLOSED: one of the cores is closed. NOT_MACHINE: there are none, or a core is missing, there twice, in another
- * place or of a machine with another count of cores. Nothing has changed.
- * REQUIRED: the cores were opened by one call of mkdemux_boot or mkdemux_boot_limits, since two cores of different
- * machines that have equal counts can't be told apart. No other call on any of them runs meanwhile.
+ * place or of another machine. Nothing has changed.
+ * REQUIRED: no other call on any of the cores runs meanwhile, and two machines that are open have two names
+ * (mkdemux_boot and mkdemux_boot_limits see to it).
  * Proved: all of this, and that it ends after at most one round more than the work ahead
  * (crates/core_machine/specs/Ahead.antt); in a round each core takes one turn. With OK the n-th decision of each core is
- * on its n-th request. With OK, NO_MEMORY and SPENT cores at one version have equal tables. Decisions aren't reported; the versions and mkdemux_unanswered show them. Takes memory. */
+ * on its n-th request. With OK, NO_MEMORY and SPENT cores at one version have equal tables. Decisions aren't reported;
+ * the versions and mkdemux_unanswered show them, and mkdemux_settle_all reports each. Takes memory. */
 uint32_t mkdemux_settle(mkdemux_core *cores, size_t count);
+
+/* Whether these are all cores of one machine, in the order in which they were opened: OK, or CLOSED or NOT_MACHINE as
+ * mkdemux_settle answers them. Nothing changes. Proved: all of this. */
+uint32_t mkdemux_are_machine(mkdemux_core *cores, size_t count);
 
 /* The version of the core's table: how many changes it has. 0 for a closed core. */
 uint64_t mkdemux_version(mkdemux_core *core);
@@ -283,12 +321,42 @@ uint64_t mkdemux_unanswered(mkdemux_core *core);
 /* How many requests the core was asked: the number of the last one. 0 for a closed core. */
 uint64_t mkdemux_asked(mkdemux_core *core);
 
+/* As mkdemux_settle, and reports each decision: `decided`, if it isn't NULL, is called with `data`, with the place of the
+ * core in `cores`, and with what its turn said, in the order of each core's decisions. It may ask of cores: that is
+ * decided and reported, too. STOPPED: a core has stopped. Otherwise the answers are mkdemux_settle's; after NO_MEMORY
+ * another call goes on, and reports no decision twice. */
+MKDEMUX_CALL uint32_t mkdemux_settle_all(mkdemux_core *cores, size_t count,
+    void (*decided)(void *data, size_t core, const mkdemux_turned *turned), void *data)
+{
+    mkdemux_turned turned;
+    uint64_t due, open;
+    uint32_t answer = mkdemux_are_machine(cores, count);
+    size_t i;
+    if (answer != MKDEMUX_CORE_OK) return answer;
+    do {
+        for (due = ~(uint64_t)0 >> (64 - count); due;)
+            for (i = 0; i < count; i++) {
+                if (!(due >> i & 1)) continue;
+                due &= ~((uint64_t)1 << i);
+                answer = mkdemux_turn(&cores[i], &turned);
+                if (answer != MKDEMUX_CORE_OK && answer != MKDEMUX_CORE_IDLE) return answer;
+                due |= turned.woken | (uint64_t)turned.more << i;
+                if (turned.what == MKDEMUX_TURN_DECISION && decided) decided(data, i, &turned);
+            }
+        for (open = 0, i = 0; i < count; i++)
+            open |= mkdemux_unanswered(&cores[i]);
+    } while (open);
+    return mkdemux_settle(cores, count);
+}
+
 /* ---- Requests ----
  *
  * A request goes after those that the core has. A turn begins it after the request before has its decision,
  * and the same turn or a later one has its own decision. OK says only that the request was put; with
- * CLOSED, NO_MEMORY, TOO_LONG and BAD_RIGHTS it wasn't; CLOSED is checked first. A stopped core takes
- * requests and never begins them.
+ * CLOSED, NO_MEMORY, TOO_LONG, BAD_RIGHTS and PEER_CLOSED it wasn't; CLOSED is checked first. A stopped core takes
+ * requests and never begins them. PEER_CLOSED: core 0 is closed, so no request of this core would be decided.
+ * Core 0 never answers it: what it refuses by itself it still decides when others are closed, and its turn says
+ * PEER_CLOSED once it waits for one of these.
  * Ids of capabilities begin at 1, and so do those of filters; none is used twice. Each request below has
  * the reasons why it may be refused; requests that add instructions may be vetoed for BUDGET, and any for
  * MEMORY.
@@ -434,7 +502,7 @@ uint32_t mkdemux_filter_code(mkdemux_core *core, uint32_t filter, struct mkdemux
 MKDEMUX_CALL const char *mkdemux_core_word(uint32_t answer)
 {
     static const char *const words[] = {"Ok", "Closed", "NoCores", "NoMemory", "NoRoom", "TooLong", "Stopped",
-        "Spent", "Idle", "Open", "BadRights", "NoFilter", "NotMachine", "BadLimits"};
+        "Spent", "Idle", "Open", "BadRights", "NoFilter", "NotMachine", "BadLimits", "?", "PeerClosed"};
     return answer < sizeof words / sizeof *words ? words[answer] : "?";
 }
 
