@@ -11,7 +11,7 @@ use Rattle.command_line.specs.declared.request.Request.{Request}
 use Rattle.command_line.specs.declared.request.Request.TheVariants.{Check, Graph, Dump, Draw}
 use Rattle.command_line.specs.declared.request.CheckInput.TheVariants.{Assembler as AsmText}
 use Rattle.command_line.specs.declared.request.MatchView.{MatchView}
-use Rattle.command_line.specs.declared.request.MatchView.TheVariants.{Numbers, Count, Quiet}
+use Rattle.command_line.specs.declared.request.MatchView.TheVariants.{Numbers, Count, NumbersAndCount, Quiet}
 use Rattle.command_line.specs.Program.{program}
 use Rattle.command_line.specs.Requests.{Asks, AsksBy, BeginsWithDigit, FromGivenCode, FromStandardInput, IsExplain, IsKeep, IsMatch, IsViewed, Spells, inputs_in, check_words, draw_words, explain_words, keep_words, match_words, view_words}
 use Rattle.command_line.proofs.OneRequest.{HasAssembler, HasView, flag_is, only_check, only_draw, only_dump, only_explain, only_graph, only_keep, only_match, only_view, truth}
@@ -127,16 +127,30 @@ finds_view_false_numbers =
 finds_view_false_count : All (FindsView false Count) (codes "0123456789")
 unfolding clap_on_literals
 finds_view_false_count =
-    All-cons (FindsView false Count) 48 (49 ∷ 50 ∷ 51 ∷ 52 ∷ 53 ∷ 54 ∷ 55 ∷ 56 ∷ 57 ∷ []) (λ name rest. (refl, (refl, refl), ((refl, refl), (refl, refl, refl, (refl, refl))))) (
-    All-cons (FindsView false Count) 49 (50 ∷ 51 ∷ 52 ∷ 53 ∷ 54 ∷ 55 ∷ 56 ∷ 57 ∷ []) (λ name rest. (refl, (refl, refl), ((refl, refl), (refl, refl, refl, (refl, refl))))) (
-    All-cons (FindsView false Count) 50 (51 ∷ 52 ∷ 53 ∷ 54 ∷ 55 ∷ 56 ∷ 57 ∷ []) (λ name rest. (refl, (refl, refl), ((refl, refl), (refl, refl, refl, (refl, refl))))) (
-    All-cons (FindsView false Count) 51 (52 ∷ 53 ∷ 54 ∷ 55 ∷ 56 ∷ 57 ∷ []) (λ name rest. (refl, (refl, refl), ((refl, refl), (refl, refl, refl, (refl, refl))))) (
-    All-cons (FindsView false Count) 52 (53 ∷ 54 ∷ 55 ∷ 56 ∷ 57 ∷ []) (λ name rest. (refl, (refl, refl), ((refl, refl), (refl, refl, refl, (refl, refl))))) (
-    All-cons (FindsView false Count) 53 (54 ∷ 55 ∷ 56 ∷ 57 ∷ []) (λ name rest. (refl, (refl, refl), ((refl, refl), (refl, refl, refl, (refl, refl))))) (
-    All-cons (FindsView false Count) 54 (55 ∷ 56 ∷ 57 ∷ []) (λ name rest. (refl, (refl, refl), ((refl, refl), (refl, refl, refl, (refl, refl))))) (
-    All-cons (FindsView false Count) 55 (56 ∷ 57 ∷ []) (λ name rest. (refl, (refl, refl), ((refl, refl), (refl, refl, refl, (refl, refl))))) (
-    All-cons (FindsView false Count) 56 (57 ∷ []) (λ name rest. (refl, (refl, refl), ((refl, refl), (refl, refl, refl, (refl, refl))))) (
-    All-cons (FindsView false Count) 57 [] (λ name rest. (refl, (refl, refl), ((refl, refl), (refl, refl, refl, (refl, refl))))) (All-nil (FindsView false Count)))))))))))
+    All-cons (FindsView false Count) 48 (49 ∷ 50 ∷ 51 ∷ 52 ∷ 53 ∷ 54 ∷ 55 ∷ 56 ∷ 57 ∷ []) (λ name rest. (refl, (refl, refl), ((refl, refl), (refl, refl, refl, (refl, refl, refl))))) (
+    All-cons (FindsView false Count) 49 (50 ∷ 51 ∷ 52 ∷ 53 ∷ 54 ∷ 55 ∷ 56 ∷ 57 ∷ []) (λ name rest. (refl, (refl, refl), ((refl, refl), (refl, refl, refl, (refl, refl, refl))))) (
+    All-cons (FindsView false Count) 50 (51 ∷ 52 ∷ 53 ∷ 54 ∷ 55 ∷ 56 ∷ 57 ∷ []) (λ name rest. (refl, (refl, refl), ((refl, refl), (refl, refl, refl, (refl, refl, refl))))) (
+    All-cons (FindsView false Count) 51 (52 ∷ 53 ∷ 54 ∷ 55 ∷ 56 ∷ 57 ∷ []) (λ name rest. (refl, (refl, refl), ((refl, refl), (refl, refl, refl, (refl, refl, refl))))) (
+    All-cons (FindsView false Count) 52 (53 ∷ 54 ∷ 55 ∷ 56 ∷ 57 ∷ []) (λ name rest. (refl, (refl, refl), ((refl, refl), (refl, refl, refl, (refl, refl, refl))))) (
+    All-cons (FindsView false Count) 53 (54 ∷ 55 ∷ 56 ∷ 57 ∷ []) (λ name rest. (refl, (refl, refl), ((refl, refl), (refl, refl, refl, (refl, refl, refl))))) (
+    All-cons (FindsView false Count) 54 (55 ∷ 56 ∷ 57 ∷ []) (λ name rest. (refl, (refl, refl), ((refl, refl), (refl, refl, refl, (refl, refl, refl))))) (
+    All-cons (FindsView false Count) 55 (56 ∷ 57 ∷ []) (λ name rest. (refl, (refl, refl), ((refl, refl), (refl, refl, refl, (refl, refl, refl))))) (
+    All-cons (FindsView false Count) 56 (57 ∷ []) (λ name rest. (refl, (refl, refl), ((refl, refl), (refl, refl, refl, (refl, refl, refl))))) (
+    All-cons (FindsView false Count) 57 [] (λ name rest. (refl, (refl, refl), ((refl, refl), (refl, refl, refl, (refl, refl, refl))))) (All-nil (FindsView false Count)))))))))))
+
+finds_view_false_both : All (FindsView false NumbersAndCount) (codes "0123456789")
+unfolding clap_on_literals
+finds_view_false_both =
+    All-cons (FindsView false NumbersAndCount) 48 (49 ∷ 50 ∷ 51 ∷ 52 ∷ 53 ∷ 54 ∷ 55 ∷ 56 ∷ 57 ∷ []) (λ name rest. (refl, (refl, refl), ((refl, refl), (refl, refl, refl, (refl, refl, refl))))) (
+    All-cons (FindsView false NumbersAndCount) 49 (50 ∷ 51 ∷ 52 ∷ 53 ∷ 54 ∷ 55 ∷ 56 ∷ 57 ∷ []) (λ name rest. (refl, (refl, refl), ((refl, refl), (refl, refl, refl, (refl, refl, refl))))) (
+    All-cons (FindsView false NumbersAndCount) 50 (51 ∷ 52 ∷ 53 ∷ 54 ∷ 55 ∷ 56 ∷ 57 ∷ []) (λ name rest. (refl, (refl, refl), ((refl, refl), (refl, refl, refl, (refl, refl, refl))))) (
+    All-cons (FindsView false NumbersAndCount) 51 (52 ∷ 53 ∷ 54 ∷ 55 ∷ 56 ∷ 57 ∷ []) (λ name rest. (refl, (refl, refl), ((refl, refl), (refl, refl, refl, (refl, refl, refl))))) (
+    All-cons (FindsView false NumbersAndCount) 52 (53 ∷ 54 ∷ 55 ∷ 56 ∷ 57 ∷ []) (λ name rest. (refl, (refl, refl), ((refl, refl), (refl, refl, refl, (refl, refl, refl))))) (
+    All-cons (FindsView false NumbersAndCount) 53 (54 ∷ 55 ∷ 56 ∷ 57 ∷ []) (λ name rest. (refl, (refl, refl), ((refl, refl), (refl, refl, refl, (refl, refl, refl))))) (
+    All-cons (FindsView false NumbersAndCount) 54 (55 ∷ 56 ∷ 57 ∷ []) (λ name rest. (refl, (refl, refl), ((refl, refl), (refl, refl, refl, (refl, refl, refl))))) (
+    All-cons (FindsView false NumbersAndCount) 55 (56 ∷ 57 ∷ []) (λ name rest. (refl, (refl, refl), ((refl, refl), (refl, refl, refl, (refl, refl, refl))))) (
+    All-cons (FindsView false NumbersAndCount) 56 (57 ∷ []) (λ name rest. (refl, (refl, refl), ((refl, refl), (refl, refl, refl, (refl, refl, refl))))) (
+    All-cons (FindsView false NumbersAndCount) 57 [] (λ name rest. (refl, (refl, refl), ((refl, refl), (refl, refl, refl, (refl, refl, refl))))) (All-nil (FindsView false NumbersAndCount)))))))))))
 
 finds_view_false_quiet : All (FindsView false Quiet) (codes "0123456789")
 unfolding clap_on_literals
@@ -169,16 +183,30 @@ finds_view_true_numbers =
 finds_view_true_count : All (FindsView true Count) (codes "0123456789")
 unfolding clap_on_literals
 finds_view_true_count =
-    All-cons (FindsView true Count) 48 (49 ∷ 50 ∷ 51 ∷ 52 ∷ 53 ∷ 54 ∷ 55 ∷ 56 ∷ 57 ∷ []) (λ name rest. (refl, (refl, refl), ((refl, refl), (refl, refl, refl, (refl, refl))))) (
-    All-cons (FindsView true Count) 49 (50 ∷ 51 ∷ 52 ∷ 53 ∷ 54 ∷ 55 ∷ 56 ∷ 57 ∷ []) (λ name rest. (refl, (refl, refl), ((refl, refl), (refl, refl, refl, (refl, refl))))) (
-    All-cons (FindsView true Count) 50 (51 ∷ 52 ∷ 53 ∷ 54 ∷ 55 ∷ 56 ∷ 57 ∷ []) (λ name rest. (refl, (refl, refl), ((refl, refl), (refl, refl, refl, (refl, refl))))) (
-    All-cons (FindsView true Count) 51 (52 ∷ 53 ∷ 54 ∷ 55 ∷ 56 ∷ 57 ∷ []) (λ name rest. (refl, (refl, refl), ((refl, refl), (refl, refl, refl, (refl, refl))))) (
-    All-cons (FindsView true Count) 52 (53 ∷ 54 ∷ 55 ∷ 56 ∷ 57 ∷ []) (λ name rest. (refl, (refl, refl), ((refl, refl), (refl, refl, refl, (refl, refl))))) (
-    All-cons (FindsView true Count) 53 (54 ∷ 55 ∷ 56 ∷ 57 ∷ []) (λ name rest. (refl, (refl, refl), ((refl, refl), (refl, refl, refl, (refl, refl))))) (
-    All-cons (FindsView true Count) 54 (55 ∷ 56 ∷ 57 ∷ []) (λ name rest. (refl, (refl, refl), ((refl, refl), (refl, refl, refl, (refl, refl))))) (
-    All-cons (FindsView true Count) 55 (56 ∷ 57 ∷ []) (λ name rest. (refl, (refl, refl), ((refl, refl), (refl, refl, refl, (refl, refl))))) (
-    All-cons (FindsView true Count) 56 (57 ∷ []) (λ name rest. (refl, (refl, refl), ((refl, refl), (refl, refl, refl, (refl, refl))))) (
-    All-cons (FindsView true Count) 57 [] (λ name rest. (refl, (refl, refl), ((refl, refl), (refl, refl, refl, (refl, refl))))) (All-nil (FindsView true Count)))))))))))
+    All-cons (FindsView true Count) 48 (49 ∷ 50 ∷ 51 ∷ 52 ∷ 53 ∷ 54 ∷ 55 ∷ 56 ∷ 57 ∷ []) (λ name rest. (refl, (refl, refl), ((refl, refl), (refl, refl, refl, (refl, refl, refl))))) (
+    All-cons (FindsView true Count) 49 (50 ∷ 51 ∷ 52 ∷ 53 ∷ 54 ∷ 55 ∷ 56 ∷ 57 ∷ []) (λ name rest. (refl, (refl, refl), ((refl, refl), (refl, refl, refl, (refl, refl, refl))))) (
+    All-cons (FindsView true Count) 50 (51 ∷ 52 ∷ 53 ∷ 54 ∷ 55 ∷ 56 ∷ 57 ∷ []) (λ name rest. (refl, (refl, refl), ((refl, refl), (refl, refl, refl, (refl, refl, refl))))) (
+    All-cons (FindsView true Count) 51 (52 ∷ 53 ∷ 54 ∷ 55 ∷ 56 ∷ 57 ∷ []) (λ name rest. (refl, (refl, refl), ((refl, refl), (refl, refl, refl, (refl, refl, refl))))) (
+    All-cons (FindsView true Count) 52 (53 ∷ 54 ∷ 55 ∷ 56 ∷ 57 ∷ []) (λ name rest. (refl, (refl, refl), ((refl, refl), (refl, refl, refl, (refl, refl, refl))))) (
+    All-cons (FindsView true Count) 53 (54 ∷ 55 ∷ 56 ∷ 57 ∷ []) (λ name rest. (refl, (refl, refl), ((refl, refl), (refl, refl, refl, (refl, refl, refl))))) (
+    All-cons (FindsView true Count) 54 (55 ∷ 56 ∷ 57 ∷ []) (λ name rest. (refl, (refl, refl), ((refl, refl), (refl, refl, refl, (refl, refl, refl))))) (
+    All-cons (FindsView true Count) 55 (56 ∷ 57 ∷ []) (λ name rest. (refl, (refl, refl), ((refl, refl), (refl, refl, refl, (refl, refl, refl))))) (
+    All-cons (FindsView true Count) 56 (57 ∷ []) (λ name rest. (refl, (refl, refl), ((refl, refl), (refl, refl, refl, (refl, refl, refl))))) (
+    All-cons (FindsView true Count) 57 [] (λ name rest. (refl, (refl, refl), ((refl, refl), (refl, refl, refl, (refl, refl, refl))))) (All-nil (FindsView true Count)))))))))))
+
+finds_view_true_both : All (FindsView true NumbersAndCount) (codes "0123456789")
+unfolding clap_on_literals
+finds_view_true_both =
+    All-cons (FindsView true NumbersAndCount) 48 (49 ∷ 50 ∷ 51 ∷ 52 ∷ 53 ∷ 54 ∷ 55 ∷ 56 ∷ 57 ∷ []) (λ name rest. (refl, (refl, refl), ((refl, refl), (refl, refl, refl, (refl, refl, refl))))) (
+    All-cons (FindsView true NumbersAndCount) 49 (50 ∷ 51 ∷ 52 ∷ 53 ∷ 54 ∷ 55 ∷ 56 ∷ 57 ∷ []) (λ name rest. (refl, (refl, refl), ((refl, refl), (refl, refl, refl, (refl, refl, refl))))) (
+    All-cons (FindsView true NumbersAndCount) 50 (51 ∷ 52 ∷ 53 ∷ 54 ∷ 55 ∷ 56 ∷ 57 ∷ []) (λ name rest. (refl, (refl, refl), ((refl, refl), (refl, refl, refl, (refl, refl, refl))))) (
+    All-cons (FindsView true NumbersAndCount) 51 (52 ∷ 53 ∷ 54 ∷ 55 ∷ 56 ∷ 57 ∷ []) (λ name rest. (refl, (refl, refl), ((refl, refl), (refl, refl, refl, (refl, refl, refl))))) (
+    All-cons (FindsView true NumbersAndCount) 52 (53 ∷ 54 ∷ 55 ∷ 56 ∷ 57 ∷ []) (λ name rest. (refl, (refl, refl), ((refl, refl), (refl, refl, refl, (refl, refl, refl))))) (
+    All-cons (FindsView true NumbersAndCount) 53 (54 ∷ 55 ∷ 56 ∷ 57 ∷ []) (λ name rest. (refl, (refl, refl), ((refl, refl), (refl, refl, refl, (refl, refl, refl))))) (
+    All-cons (FindsView true NumbersAndCount) 54 (55 ∷ 56 ∷ 57 ∷ []) (λ name rest. (refl, (refl, refl), ((refl, refl), (refl, refl, refl, (refl, refl, refl))))) (
+    All-cons (FindsView true NumbersAndCount) 55 (56 ∷ 57 ∷ []) (λ name rest. (refl, (refl, refl), ((refl, refl), (refl, refl, refl, (refl, refl, refl))))) (
+    All-cons (FindsView true NumbersAndCount) 56 (57 ∷ []) (λ name rest. (refl, (refl, refl), ((refl, refl), (refl, refl, refl, (refl, refl, refl))))) (
+    All-cons (FindsView true NumbersAndCount) 57 [] (λ name rest. (refl, (refl, refl), ((refl, refl), (refl, refl, refl, (refl, refl, refl))))) (All-nil (FindsView true NumbersAndCount)))))))))))
 
 finds_view_true_quiet : All (FindsView true Quiet) (codes "0123456789")
 unfolding clap_on_literals
@@ -197,9 +225,11 @@ finds_view_true_quiet =
 finds_view : (pcap : Bool) (view : MatchView) → All (FindsView pcap view) (codes "0123456789")
 finds_view false Numbers = finds_view_false_numbers
 finds_view false Count = finds_view_false_count
+finds_view false NumbersAndCount = finds_view_false_both
 finds_view false Quiet = finds_view_false_quiet
 finds_view true Numbers = finds_view_true_numbers
 finds_view true Count = finds_view_true_count
+finds_view true NumbersAndCount = finds_view_true_both
 finds_view true Quiet = finds_view_true_quiet
 
 abbrev HasExplain : Text → List Row → Type 0

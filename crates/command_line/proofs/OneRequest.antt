@@ -8,7 +8,7 @@ use Rattle.command_line.specs.declared.request.Request.TheVariants.{Match, View 
 use Rattle.command_line.specs.declared.request.CheckInput.{CheckInput}
 use Rattle.command_line.specs.declared.request.CheckInput.TheVariants.{Assembler as AsmText, Insns, Decimal as DecimalText}
 use Rattle.command_line.specs.declared.request.MatchView.{MatchView}
-use Rattle.command_line.specs.declared.request.MatchView.TheVariants.{Numbers, Count, Quiet}
+use Rattle.command_line.specs.declared.request.MatchView.TheVariants.{Numbers, Count, NumbersAndCount, Quiet}
 use Rattle.command_line.specs.Requests.{Asks, IsCheckInput, IsExplain, IsFlag, IsKeep, IsMatch, IsView, IsViewed, command_names}
 
 abbrev pub truth : Bool → Text
@@ -34,7 +34,10 @@ not_given name rows given flag is found differ = absurd (differ (flag_is name ro
 -- the rows of the flags of a view
 abbrev pub HasView : List Row → Option MatchView → Type 0
 HasView rows (Some Quiet) = one_of (codes "quiet") rows ≡ Some (truth true)
-HasView rows (Some Count) = (one_of (codes "quiet") rows ≡ Some (truth false)) × (one_of (codes "count") rows ≡ Some (truth true))
+HasView rows (Some Count) =
+    (one_of (codes "quiet") rows ≡ Some (truth false)) × (one_of (codes "count") rows ≡ Some (truth true)) × (one_of (codes "number") rows ≡ Some (truth false))
+HasView rows (Some NumbersAndCount) =
+    (one_of (codes "quiet") rows ≡ Some (truth false)) × (one_of (codes "count") rows ≡ Some (truth true)) × (one_of (codes "number") rows ≡ Some (truth true))
 HasView rows (Some Numbers) =
     (one_of (codes "quiet") rows ≡ Some (truth false)) × (one_of (codes "count") rows ≡ Some (truth false)) × (one_of (codes "number") rows ≡ Some (truth true))
 HasView rows None =
@@ -44,18 +47,27 @@ HasView rows None =
 same_view : (rows : List Row) (view other : Option MatchView) → IsView rows view → HasView rows other → view ≡ other
 same_view rows (Some Quiet) (Some Quiet) is has = refl
 same_view rows (Some Quiet) (Some Count) is has = not_given (codes "quiet") rows true false is has.0 (λ same. cc)
+same_view rows (Some Quiet) (Some NumbersAndCount) is has = not_given (codes "quiet") rows true false is has.0 (λ same. cc)
 same_view rows (Some Quiet) (Some Numbers) is has = not_given (codes "quiet") rows true false is has.0 (λ same. cc)
 same_view rows (Some Quiet) None is has = not_given (codes "quiet") rows true false is has.0 (λ same. cc)
 same_view rows (Some Count) (Some Quiet) is has = not_given (codes "quiet") rows false true is.0 has (λ same. cc)
 same_view rows (Some Count) (Some Count) is has = refl
+same_view rows (Some Count) (Some NumbersAndCount) is has = not_given (codes "number") rows false true is.2 has.2 (λ same. cc)
 same_view rows (Some Count) (Some Numbers) is has = not_given (codes "count") rows true false is.1 has.1 (λ same. cc)
 same_view rows (Some Count) None is has = not_given (codes "count") rows true false is.1 has.1 (λ same. cc)
+same_view rows (Some NumbersAndCount) (Some Quiet) is has = not_given (codes "quiet") rows false true is.0 has (λ same. cc)
+same_view rows (Some NumbersAndCount) (Some Count) is has = not_given (codes "number") rows true false is.2 has.2 (λ same. cc)
+same_view rows (Some NumbersAndCount) (Some NumbersAndCount) is has = refl
+same_view rows (Some NumbersAndCount) (Some Numbers) is has = not_given (codes "count") rows true false is.1 has.1 (λ same. cc)
+same_view rows (Some NumbersAndCount) None is has = not_given (codes "count") rows true false is.1 has.1 (λ same. cc)
 same_view rows (Some Numbers) (Some Quiet) is has = not_given (codes "quiet") rows false true is.0 has (λ same. cc)
 same_view rows (Some Numbers) (Some Count) is has = not_given (codes "count") rows false true is.1 has.1 (λ same. cc)
+same_view rows (Some Numbers) (Some NumbersAndCount) is has = not_given (codes "count") rows false true is.1 has.1 (λ same. cc)
 same_view rows (Some Numbers) (Some Numbers) is has = refl
 same_view rows (Some Numbers) None is has = not_given (codes "number") rows true false is.2 has.2 (λ same. cc)
 same_view rows None (Some Quiet) is has = not_given (codes "quiet") rows false true is.0 has (λ same. cc)
 same_view rows None (Some Count) is has = not_given (codes "count") rows false true is.1 has.1 (λ same. cc)
+same_view rows None (Some NumbersAndCount) is has = not_given (codes "count") rows false true is.1 has.1 (λ same. cc)
 same_view rows None (Some Numbers) is has = not_given (codes "number") rows false true is.2 has.2 (λ same. cc)
 same_view rows None None is has = refl
 

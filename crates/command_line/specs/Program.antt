@@ -54,7 +54,7 @@ abbrev pub program : App
 program = record {
   top = record (new_shape (codes "mkdemux")) { has_version = true; subcommand_required = true; is_leaf = false };
   subs = command (codes "match") (code ∷ code_flag ∷ flag (codes "pcap") ∷ lone_flag (codes "hex") ∷ flag (codes "stream") ∷ flag (codes "number")
-      ∷ lone_flag (codes "count") ∷ lone_flag (codes "quiet") ∷ lone_flag (codes "explain") ∷ flag (codes "no-filename") ∷ link ∷ snap ∷ inputs ∷ [])
+      ∷ flag (codes "count") ∷ lone_flag (codes "quiet") ∷ lone_flag (codes "explain") ∷ flag (codes "no-filename") ∷ link ∷ snap ∷ inputs ∷ [])
       ∷ command (codes "check") (flag (codes "asm") ∷ lone_flag (codes "graph") ∷ flag (codes "insns") ∷ lone_flag (codes "ddd") ∷ file ∷ [])
       ∷ command (codes "dump") (flag (codes "stream") ∷ flag (codes "time") ∷ link ∷ file ∷ [])
       ∷ command (codes "keep") (code ∷ code_flag ∷ flag (codes "not") ∷ link ∷ file ∷ [])

@@ -13,7 +13,7 @@ use Rattle.command_line.specs.declared.request.Request.TheVariants.{Match, View 
 use Rattle.command_line.specs.declared.request.Listing.{Listing}
 use Rattle.command_line.specs.declared.request.Listing.TheVariants.{Decimal, Assembler, Array, Control, Tree}
 use Rattle.command_line.specs.declared.request.MatchView.{MatchView}
-use Rattle.command_line.specs.declared.request.MatchView.TheVariants.{Numbers, Count, Quiet}
+use Rattle.command_line.specs.declared.request.MatchView.TheVariants.{Numbers, Count, NumbersAndCount, Quiet}
 
 -- whether a flag was given
 abbrev pub IsFlag : Text → List Row → Bool → Type 0
@@ -22,7 +22,8 @@ IsFlag name rows given = (one_of name rows ≡ Some (codes "true") → given ≡
 -- what `match` shows by its flags: a line for each packet where there is none of the three
 abbrev pub IsView : List Row → Option MatchView → Type 0
 IsView rows (Some Quiet) = IsFlag (codes "quiet") rows true
-IsView rows (Some Count) = IsFlag (codes "quiet") rows false × IsFlag (codes "count") rows true
+IsView rows (Some Count) = IsFlag (codes "quiet") rows false × IsFlag (codes "count") rows true × IsFlag (codes "number") rows false
+IsView rows (Some NumbersAndCount) = IsFlag (codes "quiet") rows false × IsFlag (codes "count") rows true × IsFlag (codes "number") rows true
 IsView rows (Some Numbers) = IsFlag (codes "quiet") rows false × IsFlag (codes "count") rows false × IsFlag (codes "number") rows true
 IsView rows None = IsFlag (codes "quiet") rows false × IsFlag (codes "count") rows false × IsFlag (codes "number") rows false
 
@@ -130,14 +131,15 @@ flag_word word false = []
 abbrev pub match_words : Text → Bool → Bool → List Text
 match_words code pcap stream = codes "match" ∷ code ∷ flag_word (codes "--pcap") pcap ++ flag_word (codes "--stream") stream
 
--- the word of a view
-abbrev pub view_word : MatchView → Text
-view_word Numbers = codes "--number"
-view_word Count = codes "--count"
-view_word Quiet = codes "--quiet"
+-- the words of a view
+abbrev pub view_flags : MatchView → List Text
+view_flags Numbers = codes "--number" ∷ []
+view_flags Count = codes "--count" ∷ []
+view_flags NumbersAndCount = codes "--number" ∷ codes "--count" ∷ []
+view_flags Quiet = codes "--quiet" ∷ []
 
 abbrev pub view_words : Text → Bool → MatchView → List Text
-view_words code pcap view = codes "match" ∷ code ∷ flag_word (codes "--pcap") pcap ++ view_word view ∷ []
+view_words code pcap view = codes "match" ∷ code ∷ flag_word (codes "--pcap") pcap ++ view_flags view
 
 abbrev pub explain_words : Text → List Text
 explain_words code = codes "match" ∷ code ∷ codes "--explain" ∷ []

@@ -54,11 +54,11 @@ fn with_command<'a>(
     }
 }
 
-/// `match [--code] CODE [--stream] [--number | --count | --quiet] [--pcap | --hex] [--link LINK] [--snap N] [FILE]...`,
+/// `match [--code] CODE [--stream] [--number] [--count] [--quiet] [--pcap | --hex] [--link LINK] [--snap N] [FILE]...`,
 /// `match CODE --explain [FILE]`
 fn matching<'a>(alloc: Global) -> Result<Command<'a>, AllocError>
     ensures { IfOk result (IsCommand (codes "match") (code ∷ code_flag ∷ flag (codes "pcap") ∷ lone_flag (codes "hex") ∷ flag (codes "stream") ∷ flag (codes "number")
-        ∷ lone_flag (codes "count") ∷ lone_flag (codes "quiet") ∷ lone_flag (codes "explain") ∷ flag (codes "no-filename") ∷ link ∷ snap ∷ inputs ∷ [])) }
+        ∷ flag (codes "count") ∷ lone_flag (codes "quiet") ∷ lone_flag (codes "explain") ∷ flag (codes "no-filename") ∷ link ∷ snap ∷ inputs ∷ [])) }
 {
     let command = described(alloc, "match", MATCH_ABOUT, MATCH_DETAILS, MATCH_EXAMPLE)
         .arg(code(alloc))?
@@ -66,8 +66,8 @@ fn matching<'a>(alloc: Global) -> Result<Command<'a>, AllocError>
         .arg(flag(alloc, "pcap", PCAP_HELP))?;
     let command = with_argument(command, lone_flag(alloc, "hex", HEX_HELP, "pcap"))?
         .arg(flag(alloc, "stream", STREAM_HELP))?
-        .arg(flag(alloc, "number", NUMBER_HELP))?;
-    let command = with_argument(command, count(alloc))?;
+        .arg(flag(alloc, "number", NUMBER_HELP))?
+        .arg(flag(alloc, "count", COUNT_HELP))?;
     let command = with_argument(command, quiet(alloc))?;
     with_argument(command, explain(alloc))?
         .arg(flag(alloc, "no-filename", NO_FILENAME_HELP))?
@@ -237,14 +237,6 @@ fn code_flag<'a>(alloc: Global) -> Arg<'a>
         .long("code")
         .help(CODE_FILE_HELP)
         .action(ArgAction::SetTrue)
-}
-
-/// `--count`
-fn count<'a>(alloc: Global) -> Result<Arg<'a>, AllocError>
-    ensures rule { IfOk result (λ a. rule_of a ≡ lone_flag (codes "count")) }
-    ensures local { IfOk result (λ a. a.global ≡ false) }
-{
-    lone_flag(alloc, "count", COUNT_HELP, "number")
 }
 
 /// `--quiet`

@@ -20,6 +20,8 @@ pub enum MatchView {
     Numbers,
     /// How many packets were accepted, of how many.
     Count,
+    /// A line for each packet, with its number, and then how many were accepted.
+    NumbersAndCount,
     /// Nothing: the status answers.
     Quiet,
 }
@@ -331,7 +333,11 @@ fn view_of(found: &ArgMatches) -> Option<MatchView>
     if found.get_flag("quiet") {
         Some(MatchView::Quiet)
     } else if found.get_flag("count") {
-        Some(MatchView::Count)
+        if found.get_flag("number") {
+            Some(MatchView::NumbersAndCount)
+        } else {
+            Some(MatchView::Count)
+        }
     } else if found.get_flag("number") {
         Some(MatchView::Numbers)
     } else {

@@ -62,6 +62,7 @@ ShowsMatch code accept form true remaining old new status text lines =
 -- the view of the engine
 abbrev pub shown_as : MatchView → Shown
 shown_as asked.Numbers = shown.Numbers
+shown_as asked.NumbersAndCount = shown.NumbersAndCount
 shown_as asked.Count = shown.Count
 shown_as asked.Quiet = shown.Quiet
 
@@ -77,11 +78,11 @@ abbrev pub ShowsExplain : {R : Type 0} → List ℕ → (R → Option (List ℕ)
 ShowsExplain code remaining old new status text =
     (ShowsBadCode code text × (status ≡ 1)) ⊎ ((input : List ℕ) × IsInput remaining old new input × ShowsExplained code input status text)
 
--- `keep`: a capture, and the line about what is wrong, which stands on standard error
-abbrev pub ShowsKept : {R : Type 0} → List ℕ → Wanted → (R → Option (List ℕ)) → Source R → Source R → ℕ → List ℕ → List ℕ → Type 0
-ShowsKept code wanted remaining old new status text line =
-    (ShowsBadCode code line × (status ≡ 1) × (text ≡ []))
-    ⊎ ((input : List ℕ) × Gets remaining old new input × KeepsGoodCode code wanted input status line text × (IsAtEnd (remaining new.inner) ⊎ (status ≡ 1)))
+-- `keep`: a capture, and the lines about what is wrong, which stand on standard error
+abbrev pub ShowsKept : {R : Type 0} → List ℕ → ℕ → Wanted → (R → Option (List ℕ)) → Source R → Source R → ℕ → List ℕ → List ℕ → Type 0
+ShowsKept code accept wanted remaining old new status text lines =
+    ((line : List ℕ) × (words : List ℕ) × ShowsBadFilter code line words × (lines ≡ line ++ words) × (status ≡ 1) × (text ≡ []))
+    ⊎ ((input : List ℕ) × Gets remaining old new input × KeepsGoodCode code accept wanted input status lines text × (IsAtEnd (remaining new.inner) ⊎ (status ≡ 1)))
 
 -- `dump`, and `dump --stream`, which reads to the end
 abbrev pub ShowsDumped : {R : Type 0} → Bool → Option ℕ → Bool → (R → Option (List ℕ)) → Source R → Source R → ℕ → List ℕ → Type 0
@@ -125,7 +126,7 @@ ShowsAlone (Match code pcap stream) choices remaining old new status text lines 
 ShowsAlone (Viewed code pcap view) choices remaining old new status text lines =
     ShowsViewed (shown_as view) code.now choices.accept (form_of pcap choices.link) remaining old new status text lines
 ShowsAlone (Keep code inverted) choices remaining old new status text lines =
-    ShowsKept code.now (record { inverted = inverted; link = choices.link }) remaining old new status text lines
+    ShowsKept code.now choices.accept (record { inverted = inverted; link = choices.link }) remaining old new status text lines
 ShowsAlone request choices remaining old new status text lines = (lines ≡ []) × ShowsText request choices remaining old new status text
 
 -- what is shown for a request, by what was got of the source and of the captures

@@ -137,6 +137,7 @@ fn perform_alone<R: Read, W: Write>(
         Request::Keep { code, inverted } => run_keep(
             alloc,
             code.as_bytes(),
+            choices.accept,
             Wanted {
                 inverted: *inverted,
                 link: choices.link,
@@ -166,6 +167,7 @@ fn shown(view: MatchView) -> console::View
 {
     match view {
         MatchView::Numbers => console::View::Numbers,
+        MatchView::NumbersAndCount => console::View::NumbersAndCount,
         MatchView::Count => console::View::Count,
         MatchView::Quiet => console::View::Quiet,
     }

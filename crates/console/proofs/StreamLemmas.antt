@@ -15,7 +15,7 @@ use Rattle.console.specs.declared.packet_source.PacketSource.{PacketSource}
 use Rattle.capture_reader.specs.declared.entry.PacketTime.{PacketTime}
 use Rattle.console.specs.declared.tally.Tally.{Tally}
 use Rattle.console.specs.declared.view.View.{View}
-use Rattle.console.specs.declared.view.View.TheVariants.{Lines, Numbers, Count, Quiet}
+use Rattle.console.specs.declared.view.View.TheVariants.{Lines, Numbers, Count, NumbersAndCount, Quiet}
 use Rattle.engine_io.specs.declared.fault.EngineFault.{EngineFault}
 use Rattle.engine_io.specs.Reading.{BeginsWith}
 use Rattle.console.specs.Expressions.{IsFilter, ShowsBadFilter, explanation_of}
@@ -243,6 +243,7 @@ view_end : (view : View) (programs : Programs) (form : PacketForm) (input : List
 view_end Lines programs form input outcomes stamps ending text f first times all shows = (outcomes, ending, all, stamps, times, (shows.1, ap (λ t. shown_at_once Lines 0 stamps outcomes ++ t) shows.0, shows.2))
 view_end Numbers programs form input outcomes stamps ending text f first times all shows = (outcomes, ending, all, stamps, times, (shows.1, ap (λ t. shown_at_once Numbers 0 stamps outcomes ++ t) shows.0, shows.2))
 view_end Count programs form input outcomes stamps ending text f first times all shows = (outcomes, ending, all, stamps, times, (shows.1, ap (λ t. shown_at_once Count 0 stamps outcomes ++ t) shows.0, shows.2))
+view_end NumbersAndCount programs form input outcomes stamps ending text f first times all shows = (outcomes, ending, all, stamps, times, (shows.1, ap (λ t. shown_at_once NumbersAndCount 0 stamps outcomes ++ t) shows.0, shows.2))
 view_end Quiet programs form input outcomes stamps ending text f first times all shows = (
   ap (λ t. shown_at_once Quiet 0 stamps outcomes ++ t) shows.0 ∙ append-nil (shown_at_once Quiet 0 stamps outcomes) ∙ nothing_shown 0 stamps outcomes,
   elim (shows.1) [
@@ -266,6 +267,7 @@ status_of : (view : View) (some all : ℕ) (ending : Ending) (text : List ℕ) (
 status_of Lines some all ending text f shows one = inl (shows.1 ∙ one)
 status_of Numbers some all ending text f shows one = inl (shows.1 ∙ one)
 status_of Count some all ending text f shows one = inl (shows.1 ∙ one)
+status_of NumbersAndCount some all ending text f shows one = inl (shows.1 ∙ one)
 status_of Quiet some all ending text f shows one = elim (shows.1) [
   | inl found ↦ inr (refl, found.1)
   | inr none ↦ elim (none.1) [ inl whole ↦ absurd (omega (arith, whole.0, one)) | inr bad ↦ inl bad.1 ]

@@ -13,7 +13,7 @@ use Rattle.capture_reader.specs.declared.entry.PacketTime.{PacketTime}
 use Rattle.console.specs.declared.form.PacketForm.{PacketForm}
 use Rattle.console.specs.declared.form.PacketForm.TheVariants.{Digits, Capture}
 use Rattle.console.specs.declared.view.View.{View}
-use Rattle.console.specs.declared.view.View.TheVariants.{Lines, Numbers, Count, Quiet}
+use Rattle.console.specs.declared.view.View.TheVariants.{Lines, Numbers, Count, NumbersAndCount, Quiet}
 use Rattle.console.specs.declared.filter.CodeFault.{CodeFault}
 use Rattle.console.specs.declared.tally.Finished.{Finished}
 use Rattle.console.specs.Matching.{ShowsBytes, ShowsPackets, ending_status, ending_stop, ending_text, outcome_line}
@@ -116,6 +116,7 @@ some_end : (view : View) (some all : ℕ) (ending : Ending) → (finished : Fini
 some_end Lines some all ending = (finished_by ending, shown_after Lines some all ++ ending_text ending, (refl, refl, refl))
 some_end Numbers some all ending = (finished_by ending, shown_after Numbers some all ++ ending_text ending, (refl, refl, refl))
 some_end Count some all ending = (finished_by ending, shown_after Count some all ++ ending_text ending, (refl, refl, refl))
+some_end NumbersAndCount some all ending = (finished_by ending, shown_after NumbersAndCount some all ++ ending_text ending, (refl, refl, refl))
 some_end Quiet zero all Done = (record { status = 4; stop = None }, [], (refl, inr (refl, inl (refl, refl), refl)))
 some_end Quiet zero all (BadLine number) = (record { status = 1; stop = None }, [], (refl, inr (refl, inr (refl, refl), refl)))
 some_end Quiet zero all (Refused fault) = (record { status = 1; stop = Some fault }, [], (refl, inr (refl, inr (refl, refl), refl)))
@@ -134,6 +135,7 @@ pub end_written : (view : View) (some all : ℕ) (ending : Ending) (text : List 
 end_written Lines some all ending text loud is = (is, refl, refl)
 end_written Numbers some all ending text loud is = (is, refl, refl)
 end_written Count some all ending text loud is = (is, refl, refl)
+end_written NumbersAndCount some all ending text loud is = (is, refl, refl)
 end_written Quiet some all ending text loud is = absurd (loud refl)
 
 pub end_told : (view : View) (some all : ℕ) (ending : Ending) (text : List ℕ) (status : ℕ) (stop : Option CodeFault) → (view ≡ Quiet → ⊥) → text ≡ shown_after view some all ++ ending_text ending

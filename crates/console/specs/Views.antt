@@ -15,7 +15,7 @@ use Rattle.capture_reader.specs.declared.entry.PacketTime.{PacketTime}
 use Rattle.console.specs.declared.tally.Finished.{Finished}
 use Rattle.console.specs.declared.tally.Tally.{Tally}
 use Rattle.console.specs.declared.view.View.{View}
-use Rattle.console.specs.declared.view.View.TheVariants.{Lines, Numbers, Count, Quiet}
+use Rattle.console.specs.declared.view.View.TheVariants.{Lines, Numbers, Count, NumbersAndCount, Quiet}
 use Rattle.console.specs.declared.filter.CodeFault.{CodeFault}
 use Rattle.console.specs.Expressions.{IsFilter, ShowsBadFilter, explanation_of}
 use Rattle.console.specs.Programs.{Programs}
@@ -46,10 +46,15 @@ abbrev pub other_stamps : List PacketTime → List PacketTime
 other_stamps [] = []
 other_stamps (stamp ∷ others) = others
 
--- the line for an outcome: with its packet's number n, from 1, and its time stamp if it has one, where numbers are shown
+-- the line for the outcome of packet n, from 1, which begins with its number, and its time stamp if it has one
+abbrev pub numbered_line : ℕ → Option PacketTime → Outcome → List ℕ
+numbered_line n stamp outcome = decimal n ++ codes " " ++ mark stamp ++ outcome_line outcome
+
+-- the line for an outcome, where one is shown
 abbrev pub shown_line : View → ℕ → Option PacketTime → Outcome → List ℕ
 shown_line Lines n stamp outcome = outcome_line outcome
-shown_line Numbers n stamp outcome = decimal n ++ codes " " ++ mark stamp ++ outcome_line outcome
+shown_line Numbers n stamp outcome = numbered_line n stamp outcome
+shown_line NumbersAndCount n stamp outcome = numbered_line n stamp outcome
 shown_line Count n stamp outcome = []
 shown_line Quiet n stamp outcome = []
 
@@ -63,6 +68,7 @@ abbrev pub shown_after : View → ℕ → ℕ → List ℕ
 shown_after Lines some all = []
 shown_after Numbers some all = []
 shown_after Count some all = tally_line some all
+shown_after NumbersAndCount some all = tally_line some all
 shown_after Quiet some all = []
 
 -- the packets of bytes, in order, ended with these outcomes, up to one that CODE has no program for, and this comes after them
@@ -88,6 +94,7 @@ AreShown stamped form input n stamps = stamps ≡ []
 
 abbrev pub shows_stamps : View → PacketForm → Bool
 shows_stamps Numbers form = is_capture form
+shows_stamps NumbersAndCount form = is_capture form
 shows_stamps view form = false
 
 -- the status and the text of outcomes and of what comes after them, and the fault of CODE that was met

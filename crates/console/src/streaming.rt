@@ -71,7 +71,8 @@ pub fn run_stream<R: Read, W: Write>(
 /// - `View::Lines` is `run_stream`. `View::Numbers` is the same, with the packet's number and a blank before each line, and then,
 ///   of a capture, its time stamp and a blank.
 /// - `View::Count` writes `N of M` at the end: so many packets were accepted, of so many that were run. The line for what is wrong
-///   with the input or with an expression, if anything is, comes after it.
+///   with the input or with an expression, if anything is, comes after it. `View::NumbersAndCount` writes the lines of
+///   `View::Numbers` before it.
 /// - `View::Quiet` writes nothing. It ends at the first packet that is accepted, without reading on, with status 0. The status is
 ///   4 where the input ends and no packet was accepted, and 1 at a line that is no packet, a packet for whose link type an expression has
 ///   a fault, or a fault of the capture.
@@ -129,7 +130,7 @@ fn shows_stamps(view: View, form: PacketForm) -> bool
     ensures { result ≡ shows_stamps view form }
 {
     match view {
-        View::Numbers => matches!(form, PacketForm::Capture(_)),
+        View::Numbers | View::NumbersAndCount => matches!(form, PacketForm::Capture(_)),
         View::Lines | View::Count | View::Quiet => false,
     }
 }
@@ -144,7 +145,9 @@ fn refuse_code<W: Write>(view: View, line: &str, writer: &mut Sink<W>) -> Result
     ensures cause { IfErr result (StopsWriting writer.new) }
 {
     match view {
-        View::Lines | View::Numbers | View::Count => write_text(writer, line)?,
+        View::Lines | View::Numbers | View::Count | View::NumbersAndCount => {
+            write_text(writer, line)?;
+        }
         View::Quiet => {}
     }
     Ok(1)

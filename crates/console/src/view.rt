@@ -19,6 +19,8 @@ pub enum View {
     Numbers,
     /// One line for all packets: how many were accepted, of how many.
     Count,
+    /// The lines of `Numbers`, and then that of `Count`.
+    NumbersAndCount,
     /// Nothing: the status says whether a packet was accepted.
     Quiet,
 }
@@ -35,7 +37,7 @@ pub fn push_line(
 {
     match view {
         View::Lines => push_outcome(text, outcome),
-        View::Numbers => {
+        View::Numbers | View::NumbersAndCount => {
             let mut digits = Buffer::new();
             text.push_str(digits.format(number))?;
             text.push_str(" ")?;
@@ -83,7 +85,7 @@ pub fn push_after(
     ensures { OnOk result (string_bytes text.new ≡ string_bytes text.old ++ shown_after view accepted total) }
 {
     match view {
-        View::Count => push_tally(text, accepted, total),
+        View::Count | View::NumbersAndCount => push_tally(text, accepted, total),
         View::Lines | View::Numbers | View::Quiet => Ok(()),
     }
 }

@@ -1,10 +1,13 @@
 -- Captures in pcapng, byte for byte as draft-ietf-opsawg-pcapng says.
-use Rattle.std.specs.Prelude.{ℕ, List, [], ◌∷◌, Bool, true, false, Some, None, pos}
+use Rattle.std.specs.Prelude.{ℕ, List, [], ◌∷◌, Bool, true, false, Some, None, Ok, Err, pos}
 use Rattle.pcapng_reader.specs.declared.block.InterfaceDescription.{InterfaceDescription}
 use Rattle.pcapng_reader.specs.declared.block.PacketEntry.{PacketEntry}
 use Rattle.pcapng_reader.specs.declared.block.Content.{Content}
 use Rattle.pcapng_reader.specs.declared.block.Content.TheVariants.{Section, Interface}
 use Rattle.pcapng_reader.specs.Grammar.{WholeBlock}
+use Rattle.console.specs.declared.filter.CodeFault.TheVariants.{Link}
+use Rattle.console.specs.Programs.{Programs}
+use Rattle.keep_engine.specs.Keeping.{Part}
 use Rattle.keep_engine.specs.declared.choice.Wanted.{Wanted}
 
 -- a section header: its type, 28 bytes, the byte-order magic 0x1a2b3c4d, version 1.0, no section length (2^64 - 1), and 28 once more:
@@ -78,3 +81,11 @@ accepted_of link = record { inverted = false; link = Some link }
 
 abbrev pub refused : Wanted
 refused = record { inverted = true; link = None }
+
+-- what is kept of the section, its interface, and two blocks
+abbrev pub of_two : Part → Part → List Part
+of_two one other = Ok little_section ∷ Ok interface ∷ one ∷ other ∷ []
+
+-- no program for any link type
+abbrev pub no_program : Programs
+no_program link = Err (Link link)

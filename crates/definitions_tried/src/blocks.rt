@@ -1,14 +1,16 @@
 //! Captures in pcapng, and what is kept of captures.
 
-ghost use Rattle.std.specs.Prelude.{◌≡◌, [], ◌∷◌, ◌++◌, Some, None, true, false, pos};
+ghost use Rattle.std.specs.Prelude.{◌≡◌, [], ◌∷◌, ◌++◌, Some, None, Ok, Err, true, false, pos};
 ghost use Rattle.pcapng_reader.specs.declared.block.BlockError.TheVariants.{LengthNotRepeated, NoInterface, NoSection};
 ghost use Rattle.pcapng_reader.specs.declared.block.Content.TheVariants.{Packet};
 ghost use Rattle.pcapng_reader.specs.declared.fault.CaptureFault.TheVariants.{BadBlock, Truncated};
 ghost use Rattle.pcapng_reader.specs.Grammar.{Reads};
 ghost use Rattle.pcapng_reader.specs.Packets.{captured_in};
 ghost use Rattle.pcapng_reader.specs.Times.{stamp_of};
-ghost use Rattle.keep_engine.specs.Keeping.{Keeps};
-ghost use Rattle.definitions_tried.specs.Blocks.{little_section, big_section, interface, arp_block, cut_block, big_cut_block, simple_block, begins, enhanced, simple, block, head, accepted, accepted_of, refused};
+ghost use Rattle.console.specs.declared.filter.CodeFault.TheVariants.{Link};
+ghost use Rattle.console.specs.Programs.{same_for_all};
+ghost use Rattle.keep_engine.specs.Keeping.{Keeps, stop_of, text_of};
+ghost use Rattle.definitions_tried.specs.Blocks.{little_section, big_section, interface, arp_block, cut_block, big_cut_block, simple_block, begins, enhanced, simple, block, head, accepted, accepted_of, no_program, of_two, refused};
 ghost use Rattle.definitions_tried.specs.Filters.{arp, cut_frame};
 
 /// Captures as draft-ietf-opsawg-pcapng says: sections in both orders of bytes, an interface with a resolution of time stamps,
@@ -35,11 +37,16 @@ pub fn refused_blocks()
 {}
 
 /// What `keep` gives of a capture in pcapng with a frame of ARP and one of IP: by the filter for ARP all but the frame of IP, and
-/// inverted all but the frame of ARP; of Ethernet, 1, which both are, the same, and of Linux's cooked packets, 113, neither.
+/// inverted all but the frame of ARP; of Ethernet, 1, which both are, the same, and of Linux's cooked packets, 113, neither. Where CODE has
+/// no program for Ethernet, nothing after the interface is written.
 pub fn kept_blocks()
-    ensures arp_is_kept { Keeps arp accepted (little_section ++ interface ++ arp_block ++ simple_block) None (little_section ++ interface ++ arp_block) }
-    ensures another_is_kept_inverted { Keeps arp refused (little_section ++ interface ++ arp_block ++ simple_block) None (little_section ++ interface ++ simple_block) }
-    ensures ethernet_is_kept { Keeps arp (accepted_of 1) (little_section ++ interface ++ arp_block ++ simple_block) None (little_section ++ interface ++ arp_block) }
-    ensures no_ethernet_is_kept { Keeps arp (accepted_of 113) (little_section ++ interface ++ arp_block ++ simple_block) None (little_section ++ interface) }
-    ensures a_section_is_kept_where_no_packet_is { Keeps arp refused little_section None little_section }
+    ensures arp_is_kept { Keeps (same_for_all arp) accepted (little_section ++ interface ++ arp_block ++ simple_block) None (of_two (Ok arp_block) (Ok [])) }
+    ensures another_is_kept_inverted { Keeps (same_for_all arp) refused (little_section ++ interface ++ arp_block ++ simple_block) None (of_two (Ok []) (Ok simple_block)) }
+    ensures ethernet_is_kept { Keeps (same_for_all arp) (accepted_of 1) (little_section ++ interface ++ arp_block ++ simple_block) None (of_two (Ok arp_block) (Ok [])) }
+    ensures no_ethernet_is_kept { Keeps (same_for_all arp) (accepted_of 113) (little_section ++ interface ++ arp_block ++ simple_block) None (of_two (Ok []) (Ok [])) }
+    ensures a_section_is_kept_where_no_packet_is { Keeps (same_for_all arp) refused little_section None (Ok little_section ∷ []) }
+    ensures it_stops_where_there_is_no_program { Keeps no_program accepted (little_section ++ interface ++ arp_block ++ simple_block) None (of_two (Err (Link 1)) (Err (Link 1))) }
+    ensures what_is_kept_is_written { text_of (of_two (Ok arp_block) (Ok [])) ≡ little_section ++ interface ++ arp_block }
+    ensures nothing_is_written_after_a_stop { text_of (of_two (Err (Link 1)) (Ok simple_block)) ≡ little_section ++ interface }
+    ensures the_first_stop_is_reported { stop_of (of_two (Err (Link 1)) (Err (Link 113))) ≡ Some (Link 1) }
 {}

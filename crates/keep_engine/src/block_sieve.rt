@@ -1,15 +1,14 @@
 //! A capture in pcapng that comes in pieces, of which all is kept but some packets.
 
 ghost use Rattle.std.specs.Prelude.{◌≡◌, ◌≢◌, IsSome, IsTrue, List, OnOk, Some, ℕ, []};
-ghost use Rattle.bpf_insn.specs.declared.insn.Insn.{Insn};
 ghost use Rattle.pcapng_reader.specs.Held.{seen_block};
 ghost use Rattle.keep_engine.specs.declared.choice.Wanted.{Wanted as Wants};
-ghost use Rattle.keep_engine.specs.Keeping.{KeepsBlocks};
+ghost use Rattle.console.specs.Programs.{Programs, programs_of};
+ghost use Rattle.keep_engine.specs.Keeping.{KeepsBlocks, Part};
 ghost use Rattle.keep_engine.specs.Sieving.{HasSiftedBlocks, KeepsBlock, KeepsSkimmed, KeepsStep, Sifts};
 
-use crate::choice::{Wanted, keep_one};
-use console::LinkTypes;
-use filter_predecode::Predecoded;
+use crate::choice::{Kept, Wanted, keep_one};
+use console::{Filter, LinkTypes};
 use pcap_reader::Seen;
 use pcapng_reader::{Block, BlockFeed, CaptureFault, Content, FeedStep, Skimmed};
 use std::alloc::{AllocError, Global};
@@ -27,7 +26,7 @@ pub struct BlockSieve {
 impl BlockSieve {
     /// A sieve that was given nothing. Takes no memory.
     pub fn new(alloc: Global) -> BlockSieve
-        ensures { (program : List Insn) (wanted : Wants) → HasSiftedBlocks program wanted [] result [] }
+        ensures { (programs : Programs) (wanted : Wants) → HasSiftedBlocks programs wanted [] result [] }
     {
         BlockSieve {
             feed: BlockFeed::copying(alloc),
@@ -40,23 +39,23 @@ impl BlockSieve {
     /// whose packets are kept.
     pub fn piece(
         &mut self,
-        program: &Predecoded,
+        filter: &Filter,
         wanted: Wanted,
         piece: &[u8],
-        kept: &mut Vec<u8>,
+        kept: &mut Kept,
     ) -> Result<(), AllocError>
-        ensures { OnOk result (Sifts (HasSiftedBlocks program.now wanted) piece.now self.old self.new kept.old.items kept.new.items) }
+        ensures { OnOk result (Sifts (HasSiftedBlocks (programs_of filter.now) wanted) piece.now self.old self.new kept.old kept.new) }
     {
         let mut rest = piece;
         while !rest.is_empty() {
             if let Some(skimmed) = self.feed.skim(&mut rest) {
-                keep_skimmed(program, wanted, skimmed, kept)?;
+                keep_skimmed(filter, wanted, skimmed, kept)?;
                 continue;
             }
             match self.feed.next(&mut rest) {
                 Ok(step) => {
                     self.links = links_with(self.links, &self.feed, step);
-                    keep_step(program, wanted, &self.feed, step, kept)?;
+                    keep_step(filter, wanted, &self.feed, step, kept)?;
                 }
                 Err(fault) => return self.stop(fault),
             }
@@ -93,8 +92,8 @@ impl BlockSieve {
 
     /// The fault of a capture that ends here, if it has one.
     pub fn ending(&self) -> Option<CaptureFault>
-        ensures keeps { (program : List Insn) (wanted : Wants) (input text : List ℕ) → HasSiftedBlocks program wanted input self.now text
-            → KeepsBlocks program wanted input result text }
+        ensures keeps { (programs : Programs) (wanted : Wants) (input : List ℕ) (kept : List Part) → HasSiftedBlocks programs wanted input self.now kept
+            → KeepsBlocks programs wanted input result kept }
         ensures stopped { IsSome self.now.fault → IsSome result }
     {
         if let Some(fault) = self.fault {
@@ -126,36 +125,36 @@ fn links_with(links: LinkTypes, feed: &BlockFeed, step: FeedStep) -> LinkTypes {
 /// Appends a block that was skimmed, unless its packet isn't kept.
 #[inline(always)]
 fn keep_skimmed(
-    program: &Predecoded,
+    filter: &Filter,
     wanted: Wanted,
     skimmed: Skimmed,
-    kept: &mut Vec<u8>,
+    kept: &mut Kept,
 ) -> Result<(), AllocError>
-    ensures { OnOk result (KeepsSkimmed program.now wanted skimmed.entry kept.old.items kept.new.items) }
+    ensures { OnOk result (KeepsSkimmed (programs_of filter.now) wanted skimmed.entry kept.old kept.new) }
 {
     let packet = Seen {
         bytes: skimmed.bytes,
         original: skimmed.packet.original,
     };
     let link = u32::from(skimmed.packet.link);
-    keep_one(program, wanted, link, packet, skimmed.block, kept)
+    keep_one(filter, wanted, link, packet, skimmed.block, kept)
 }
 
 /// Appends what is kept of the block that a step made whole, if it did.
 #[inline(never)]
 fn keep_step(
-    program: &Predecoded,
+    filter: &Filter,
     wanted: Wanted,
     feed: &BlockFeed,
     step: FeedStep,
-    kept: &mut Vec<u8>,
+    kept: &mut Kept,
 ) -> Result<(), AllocError>
-    ensures { OnOk result (KeepsStep program.now wanted feed.now step.entry kept.old.items kept.new.items) }
+    ensures { OnOk result (KeepsStep (programs_of filter.now) wanted feed.now step.entry kept.old kept.new) }
 {
     match step {
-        FeedStep::Block(block) => keep_block(program, wanted, block, kept),
+        FeedStep::Block(block) => keep_block(filter, wanted, block, kept),
         FeedStep::Held => match feed.held() {
-            Some(block) => keep_block(program, wanted, block, kept),
+            Some(block) => keep_block(filter, wanted, block, kept),
             None => Ok(()),
         },
         FeedStep::Passed | FeedStep::More => Ok(()),
@@ -164,12 +163,12 @@ fn keep_step(
 
 /// Appends a block, unless it has a packet that isn't kept.
 fn keep_block(
-    program: &Predecoded,
+    filter: &Filter,
     wanted: Wanted,
     block: Block,
-    kept: &mut Vec<u8>,
+    kept: &mut Kept,
 ) -> Result<(), AllocError>
-    ensures { OnOk result (KeepsBlock program.now wanted (seen_block block.entry) kept.old.items kept.new.items) }
+    ensures { OnOk result (KeepsBlock (programs_of filter.now) wanted (seen_block block.entry) kept.old kept.new) }
 {
     match block.packet() {
         Some((entry, bytes)) => {
@@ -178,7 +177,7 @@ fn keep_block(
                 original: entry.original,
             };
             keep_one(
-                program,
+                filter,
                 wanted,
                 u32::from(entry.link),
                 packet,
@@ -187,7 +186,7 @@ fn keep_block(
             )
         }
         None => {
-            kept.extend_from_slice(block.bytes)?;
+            kept.append(block.bytes)?;
             Ok(())
         }
     }

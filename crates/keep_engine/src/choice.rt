@@ -1,16 +1,15 @@
 //! What is kept of a record or a block that has a packet.
 
-ghost use Rattle.std.specs.Prelude.{◌≡◌, OnOk};
-ghost use Rattle.bpf_insn.specs.Machine.{HasEnd, Packet};
+ghost use Rattle.std.specs.Prelude.{◌≡◌, ◌∷◌, [], Err, None, Ok, OnOk};
 ghost use Rattle.filter_vm.specs.declared.machine.Outcome.{Outcome as Ended};
+ghost use Rattle.console.specs.Programs.{programs_of};
 ghost use Rattle.keep_engine.specs.Keeping.{is_picked};
-ghost use Rattle.keep_engine.specs.Sieving.{KeepsOne};
+ghost use Rattle.keep_engine.specs.Sieving.{Appends, KeepsOne};
 
-use console::is_link;
-use filter_predecode::Predecoded;
+use console::{CodeFault, Filter, is_link};
 use filter_vm::Outcome;
 use pcap_reader::Seen;
-use std::alloc::AllocError;
+use std::alloc::{AllocError, Global};
 
 /// Which packets of a capture are kept.
 #[derive(Clone, Copy, Debug)]
@@ -21,36 +20,73 @@ pub struct Wanted {
     pub link: Option<u32>,
 }
 
+/// What is kept, up to the first packet that is wanted and for whose link type CODE has no program.
+#[derive(Drop)]
+pub struct Kept {
+    pub bytes: Vec<u8>,
+    /// Why CODE has none, once there was such a packet. Nothing is kept after it.
+    pub stop: Option<CodeFault>,
+}
+
+impl Kept {
+    /// Nothing yet. Takes no memory.
+    pub fn new(alloc: Global) -> Kept
+        ensures bytes { result.bytes.items ≡ [] }
+        ensures stop { result.stop ≡ None }
+    {
+        Kept {
+            bytes: Vec::new(alloc),
+            stop: None,
+        }
+    }
+
+    /// Appends the bytes of what is kept.
+    #[inline(always)]
+    pub fn append(&mut self, bytes: &[u8]) -> Result<(), AllocError>
+        ensures { OnOk result (Appends (Ok bytes.now ∷ []) self.old self.new) }
+    {
+        if self.stop.is_none() {
+            self.bytes.extend_from_slice(bytes)?;
+        }
+        Ok(())
+    }
+
+    /// Stops for this reason, if it hasn't stopped.
+    fn stop(&mut self, fault: CodeFault)
+        ensures { Appends (Err fault ∷ []) self.old self.new }
+    {
+        if self.stop.is_none() {
+            self.stop = Some(fault);
+        }
+    }
+}
+
 /// Runs the filter on a packet, if its link type is one that is wanted, and appends the bytes of its record or block if it is kept.
-// In line, since a call would cost as much as a short filter.
+// Inlined, since a call would cost as much as a short filter.
 #[inline(always)]
 pub fn keep_one(
-    program: &Predecoded,
+    filter: &Filter,
     wanted: Wanted,
     link: u32,
     packet: Seen,
     bytes: &[u8],
-    kept: &mut Vec<u8>,
+    kept: &mut Kept,
 ) -> Result<(), AllocError>
-    ensures { OnOk result (KeepsOne program.now wanted link packet.entry bytes.now kept.old.items kept.new.items) }
+    ensures { OnOk result (KeepsOne (programs_of filter.now) wanted link packet.entry bytes.now kept.old kept.new) }
 {
     if !is_link(wanted.link, link) {
-        has_outcomes(program);
         return Ok(());
     }
-    let outcome = program.run(packet.bytes, packet.original);
-    if is_picked(wanted.inverted, outcome) {
-        kept.extend_from_slice(bytes)?;
+    match filter.program(link) {
+        Ok(program) => {
+            let outcome = program.run(packet.bytes, packet.original);
+            if is_picked(wanted.inverted, outcome) {
+                kept.append(bytes)?;
+            }
+        }
+        Err(fault) => kept.stop(fault),
     }
     Ok(())
-}
-
-/// A packet that isn't run would have an outcome too. This does nothing.
-#[inline(always)]
-fn has_outcomes(program: &Predecoded)
-    ensures { (packet : Packet) → HasEnd program.now packet }
-{
-    let _ = program.program().code();
 }
 
 /// Whether the filter accepts a packet with this outcome; or, `inverted`, whether it doesn't.

@@ -1,15 +1,14 @@
 //! A savefile that comes in pieces, of which some records are kept.
 
 ghost use Rattle.std.specs.Prelude.{◌≡◌, IsSome, IsTrue, List, OnOk, ℕ, [], length};
-ghost use Rattle.bpf_insn.specs.declared.insn.Insn.{Insn};
 ghost use Rattle.keep_engine.specs.declared.choice.Wanted.{Wanted as Wants};
-ghost use Rattle.keep_engine.specs.Keeping.{KeepsSavefile};
+ghost use Rattle.console.specs.Programs.{Programs, programs_of};
+ghost use Rattle.keep_engine.specs.Keeping.{KeepsSavefile, Part};
 ghost use Rattle.keep_engine.specs.Sieving.{HasSiftedRecords, HasStoppedRecords, Opens, Sifts};
 
-use crate::choice::Wanted;
+use crate::choice::{Kept, Wanted};
 use crate::sifting::{take_piece, take_records};
-use console::LinkTypes;
-use filter_predecode::Predecoded;
+use console::{Filter, LinkTypes};
 use capture_reader::savefile_link;
 use pcap_reader::{CaptureFault, Header};
 use savefile_front::{FILE_HEADER, header_of};
@@ -41,7 +40,7 @@ impl Drop for RecordSieve {
 impl RecordSieve {
     /// A sieve that was given nothing. Takes no memory.
     pub fn new(alloc: Global) -> RecordSieve
-        ensures { (program : List Insn) (wanted : Wants) → HasSiftedRecords program wanted [] result [] }
+        ensures { (programs : Programs) (wanted : Wants) → HasSiftedRecords programs wanted [] result [] }
     {
         RecordSieve {
             alloc,
@@ -55,33 +54,33 @@ impl RecordSieve {
     /// that are kept.
     pub fn piece(
         &mut self,
-        program: &Predecoded,
+        filter: &Filter,
         wanted: Wanted,
         piece: &[u8],
-        kept: &mut Vec<u8>,
+        kept: &mut Kept,
     ) -> Result<(), AllocError>
-        ensures { OnOk result (Sifts (HasSiftedRecords program.now wanted) piece.now self.old self.new kept.old.items kept.new.items) }
+        ensures { OnOk result (Sifts (HasSiftedRecords (programs_of filter.now) wanted) piece.now self.old self.new kept.old kept.new) }
     {
         match self.header {
             Ok(header) => {
-                self.long = take_piece(program, wanted, header, &mut self.part, piece, kept)?;
+                self.long = take_piece(filter, wanted, header, &mut self.part, piece, kept)?;
                 Ok(())
             }
             Err(_) => {
                 self.part.extend_from_slice(piece)?;
-                self.open(program, wanted, kept)
+                self.open(filter, wanted, kept)
             }
         }
     }
 
-    /// Reads the file's header, once it is whole, keeps it, and takes the records behind it.
+    /// Reads the file's header, once it is whole, keeps it, and takes the records after it.
     fn open(
         &mut self,
-        program: &Predecoded,
+        filter: &Filter,
         wanted: Wanted,
-        kept: &mut Vec<u8>,
+        kept: &mut Kept,
     ) -> Result<(), AllocError>
-        ensures { OnOk result (Opens program.now wanted self.old.part.items self.new kept.old.items kept.new.items) }
+        ensures { OnOk result (Opens (programs_of filter.now) wanted self.old.part.items self.new kept.old kept.new) }
     {
         let front = self.part.len().min(FILE_HEADER);
         match header_of(self.alloc, &self.part[..front])? {
@@ -89,9 +88,9 @@ impl RecordSieve {
             Ok(header) => {
                 self.header = Ok(header);
                 let records = self.part.split_off(front)?;
-                kept.extend_from_slice(self.part.as_slice())?;
+                kept.append(self.part.as_slice())?;
                 self.part = records;
-                self.long = take_records(program, wanted, header, &mut self.part, kept)?;
+                self.long = take_records(filter, wanted, header, &mut self.part, kept)?;
             }
         }
         Ok(())
@@ -118,8 +117,8 @@ impl RecordSieve {
 
     /// The fault of a capture that ends after so many bytes, if it has one.
     pub fn ending(&self, taken: u64) -> Option<CaptureFault>
-        ensures keeps { (program : List Insn) (wanted : Wants) (input text : List ℕ) → HasSiftedRecords program wanted input self.now text → taken ≡ length input
-            → KeepsSavefile program wanted input result text }
+        ensures keeps { (programs : Programs) (wanted : Wants) (input : List ℕ) (kept : List Part) → HasSiftedRecords programs wanted input self.now kept → taken ≡ length input
+            → KeepsSavefile programs wanted input result kept }
         ensures stopped { HasStoppedRecords self.now → IsSome result }
     {
         match self.header {

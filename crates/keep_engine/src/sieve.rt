@@ -1,17 +1,16 @@
 //! A capture of either format that comes in pieces, of which some packets are kept.
 
 ghost use Rattle.std.specs.Prelude.{◌≡◌, ◌++◌, IsSome, IsTrue, List, OnOk, ℕ, [], length};
-ghost use Rattle.bpf_insn.specs.declared.insn.Insn.{Insn};
 ghost use Rattle.keep_engine.specs.declared.choice.Wanted.{Wanted as Wants};
-ghost use Rattle.keep_engine.specs.Keeping.{Keeps};
+ghost use Rattle.console.specs.Programs.{Programs, programs_of};
+ghost use Rattle.keep_engine.specs.Keeping.{Keeps, Part};
 ghost use Rattle.keep_engine.specs.Sieving.{Begins, HasSifted, HasStopped, Sifts};
 
 use crate::block_sieve::BlockSieve;
-use crate::choice::Wanted;
+use crate::choice::{Kept, Wanted};
 use crate::record_sieve::RecordSieve;
 use capture_reader::ReadFault;
-use console::LinkTypes;
-use filter_predecode::Predecoded;
+use console::{Filter, LinkTypes};
 use pcap_reader::CaptureFault as SavefileFault;
 use pcapng_reader::is_pcapng;
 use std::alloc::{AllocError, Global};
@@ -40,7 +39,7 @@ pub enum Format {
 impl Sieve {
     /// A sieve that was given nothing. Takes no memory.
     pub fn new(alloc: Global) -> Sieve
-        ensures { (program : List Insn) (wanted : Wants) → HasSifted program wanted [] result [] }
+        ensures { (programs : Programs) (wanted : Wants) → HasSifted programs wanted [] result [] }
     {
         Sieve {
             alloc,
@@ -52,30 +51,30 @@ impl Sieve {
     /// Takes the next piece, and appends what is kept of it. All pieces together have fewer than 2^64 bytes.
     pub fn piece(
         &mut self,
-        program: &Predecoded,
+        filter: &Filter,
         wanted: Wanted,
         piece: &[u8],
-        kept: &mut Vec<u8>,
+        kept: &mut Kept,
     ) -> Result<(), AllocError>
-        ensures { OnOk result (Sifts (HasSifted program.now wanted) piece.now self.old self.new kept.old.items kept.new.items) }
+        ensures { OnOk result (Sifts (HasSifted (programs_of filter.now) wanted) piece.now self.old self.new kept.old kept.new) }
     {
         match &mut self.format {
-            Format::Unknown => self.begin(program, wanted, piece, kept),
-            Format::Savefile(sieve) => sieve.piece(program, wanted, piece, kept),
-            Format::Pcapng(sieve) => sieve.piece(program, wanted, piece, kept),
+            Format::Unknown => self.begin(filter, wanted, piece, kept),
+            Format::Savefile(sieve) => sieve.piece(filter, wanted, piece, kept),
+            Format::Pcapng(sieve) => sieve.piece(filter, wanted, piece, kept),
         }
     }
 
     /// Takes the next piece of a capture whose format wasn't told before.
     fn begin(
         &mut self,
-        program: &Predecoded,
+        filter: &Filter,
         wanted: Wanted,
         piece: &[u8],
-        kept: &mut Vec<u8>,
+        kept: &mut Kept,
     ) -> Result<(), AllocError>
         requires { self.old.format ≡ Format.Unknown }
-        ensures { OnOk result (Begins program.now wanted (self.old.front.items ++ piece.now) self.new kept.old.items kept.new.items) }
+        ensures { OnOk result (Begins (programs_of filter.now) wanted (self.old.front.items ++ piece.now) self.new kept.old kept.new) }
     {
         self.front.extend_from_slice(piece)?;
         if self.front.len() < MAGIC {
@@ -83,11 +82,11 @@ impl Sieve {
         }
         if is_pcapng(self.front.as_slice()) {
             let mut sieve = BlockSieve::new(self.alloc);
-            sieve.piece(program, wanted, self.front.as_slice(), kept)?;
+            sieve.piece(filter, wanted, self.front.as_slice(), kept)?;
             self.format = Format::Pcapng(sieve);
         } else {
             let mut sieve = RecordSieve::new(self.alloc);
-            sieve.piece(program, wanted, self.front.as_slice(), kept)?;
+            sieve.piece(filter, wanted, self.front.as_slice(), kept)?;
             self.format = Format::Savefile(sieve);
         }
         Ok(())
@@ -115,8 +114,8 @@ impl Sieve {
 
     /// The fault of a capture that ends after so many bytes, if it has one.
     pub fn ending(&self, taken: u64) -> Option<ReadFault>
-        ensures keeps { (program : List Insn) (wanted : Wants) (input text : List ℕ) → HasSifted program wanted input self.now text → taken ≡ length input
-            → Keeps program wanted input result text }
+        ensures keeps { (programs : Programs) (wanted : Wants) (input : List ℕ) (kept : List Part) → HasSifted programs wanted input self.now kept → taken ≡ length input
+            → Keeps programs wanted input result kept }
         ensures stopped { HasStopped self.now → IsSome result }
     {
         match &self.format {

@@ -1,10 +1,11 @@
 //! Whole records, of which some are kept.
 
 ghost use Rattle.std.specs.Prelude.{◌≡◌, ◌++◌, [], IfOk, OnOk};
+ghost use Rattle.console.specs.Programs.{programs_of};
 ghost use Rattle.keep_engine.specs.Sieving.{IsLeft, TakesRecords, TakesTo};
 
-use crate::choice::{Wanted, keep_one};
-use filter_predecode::Predecoded;
+use crate::choice::{Kept, Wanted, keep_one};
+use console::Filter;
 use capture_reader::savefile_link;
 use pcap_reader::Header;
 use savefile_front::{Front, front_of, length_of};
@@ -19,28 +20,28 @@ pub struct TakenRecords {
     pub long: bool,
 }
 
-/// Takes the whole records off the front of a part of a record and a piece behind it, and appends those that are kept. What is left
+/// Takes the whole records off the front of a part of a record and a piece after it, and appends those that are kept. What is left
 /// is the new part. True where a record comes next that is too long.
 ///
 /// Of the piece what belongs to a record that was cut is copied, and no more.
 pub fn take_piece(
-    program: &Predecoded,
+    filter: &Filter,
     wanted: Wanted,
     header: Header,
     part: &mut Vec<u8>,
     piece: &[u8],
-    kept: &mut Vec<u8>,
+    kept: &mut Kept,
 ) -> Result<bool, AllocError>
-    ensures takes { OnOk result (TakesRecords program.now wanted header (part.old.items ++ piece.now) part.new.items kept.old.items kept.new.items) }
+    ensures takes { OnOk result (TakesRecords (programs_of filter.now) wanted header (part.old.items ++ piece.now) part.new.items kept.old kept.new) }
     ensures left { IfOk result (λ long. IsLeft header.big long part.new.items) }
 {
     let rest = complete(header.big, part, piece)?;
-    take_whole(program, wanted, header, part, kept)?;
+    take_whole(filter, wanted, header, part, kept)?;
     if part.is_empty() {
-        return take_in_place(program, wanted, header, part, rest, kept);
+        return take_in_place(filter, wanted, header, part, rest, kept);
     }
     part.extend_from_slice(rest)?;
-    take_records(program, wanted, header, part, kept)
+    take_records(filter, wanted, header, part, kept)
 }
 
 /// Moves bytes off the front of a piece to a part of a record, up to the record's end, and answers the rest.
@@ -65,18 +66,18 @@ fn grow<'p>(part: &mut Vec<u8>, length: usize, piece: &'p [u8]) -> Result<&'p [u
 
 /// Takes the record that a part has become, if it is whole.
 fn take_whole(
-    program: &Predecoded,
+    filter: &Filter,
     wanted: Wanted,
     header: Header,
     part: &mut Vec<u8>,
-    kept: &mut Vec<u8>,
+    kept: &mut Kept,
 ) -> Result<(), AllocError>
-    ensures { OnOk result (TakesRecords program.now wanted header part.old.items part.new.items kept.old.items kept.new.items) }
+    ensures { OnOk result (TakesRecords (programs_of filter.now) wanted header part.old.items part.new.items kept.old kept.new) }
 {
     match front_of(header.big, part.as_slice()) {
         Front::Record { length, packet } if length == part.len() => {
             keep_one(
-                program,
+                filter,
                 wanted,
                 savefile_link(header),
                 packet,
@@ -92,18 +93,18 @@ fn take_whole(
 
 /// The same as `take_piece` where there is no part yet.
 fn take_in_place(
-    program: &Predecoded,
+    filter: &Filter,
     wanted: Wanted,
     header: Header,
     part: &mut Vec<u8>,
     piece: &[u8],
-    kept: &mut Vec<u8>,
+    kept: &mut Kept,
 ) -> Result<bool, AllocError>
     requires { part.old.items ≡ [] }
-    ensures takes { OnOk result (TakesRecords program.now wanted header piece.now part.new.items kept.old.items kept.new.items) }
+    ensures takes { OnOk result (TakesRecords (programs_of filter.now) wanted header piece.now part.new.items kept.old kept.new) }
     ensures left { IfOk result (λ long. IsLeft header.big long part.new.items) }
 {
-    let taken = sift(program, wanted, header, piece, kept)?;
+    let taken = sift(filter, wanted, header, piece, kept)?;
     part.extend_from_slice(&piece[taken.count..])?;
     Ok(taken.long)
 }
@@ -111,16 +112,16 @@ fn take_in_place(
 /// Takes the whole records off the front of a part of a capture, and appends those that are kept. True where a record comes next
 /// that is too long.
 pub fn take_records(
-    program: &Predecoded,
+    filter: &Filter,
     wanted: Wanted,
     header: Header,
     part: &mut Vec<u8>,
-    kept: &mut Vec<u8>,
+    kept: &mut Kept,
 ) -> Result<bool, AllocError>
-    ensures takes { OnOk result (TakesRecords program.now wanted header part.old.items part.new.items kept.old.items kept.new.items) }
+    ensures takes { OnOk result (TakesRecords (programs_of filter.now) wanted header part.old.items part.new.items kept.old kept.new) }
     ensures left { IfOk result (λ long. IsLeft header.big long part.new.items) }
 {
-    let taken = sift(program, wanted, header, part.as_slice(), kept)?;
+    let taken = sift(filter, wanted, header, part.as_slice(), kept)?;
     if taken.count > 0 {
         let rest = part.split_off(taken.count)?;
         *part = rest;
@@ -130,13 +131,13 @@ pub fn take_records(
 
 /// Runs the filter on the packets of the whole records at the front of some bytes, and appends the records that are kept.
 fn sift(
-    program: &Predecoded,
+    filter: &Filter,
     wanted: Wanted,
     header: Header,
     bytes: &[u8],
-    kept: &mut Vec<u8>,
+    kept: &mut Kept,
 ) -> Result<TakenRecords, AllocError>
-    ensures { IfOk result (TakesTo program.now wanted header bytes.now kept.old.items kept.new.items) }
+    ensures { IfOk result (TakesTo (programs_of filter.now) wanted header bytes.now kept.old kept.new) }
 {
     let mut count = 0;
     loop {
@@ -144,7 +145,7 @@ fn sift(
         match front_of(header.big, rest) {
             Front::Record { length, packet } => {
                 keep_one(
-                    program,
+                    filter,
                     wanted,
                     savefile_link(header),
                     packet,

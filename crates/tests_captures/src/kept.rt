@@ -20,6 +20,9 @@ const NONE: &str = "1,6 0 0 0";
 /// A filter that accepts packets whose first byte is 161.
 const SIMPLE: &str = "4,48 0 0 0,21 0 1 161,6 0 0 1,6 0 0 0";
 
+/// The verdict on packets that an expression accepts.
+const ACCEPT: u32 = 262_144;
+
 /// What `keep` answers, writes and says.
 #[derive(Debug, Drop, PartialEq)]
 struct Answer {
@@ -69,6 +72,7 @@ fn status<W: Write>(
     run_keep(
         alloc,
         code.as_bytes(),
+        ACCEPT,
         Wanted {
             inverted,
             link: None,
@@ -125,6 +129,54 @@ fn what_is_accepted_is_kept_however_it_is_cut(rt: HostRuntime) {
             holds(&rt, got.complaint.is_empty());
         }
     }
+}
+
+/// This is kept of a capture, and said of it, however it is cut.
+fn keeps(
+    rt: &impl Abort,
+    alloc: Global,
+    code: &str,
+    inverted: bool,
+    wanted: (u8, &[usize], &str),
+) {
+    let input = both(rt, alloc);
+    for step in [1, 28, 65_536] {
+        let got = kept(rt, alloc, code, inverted, &input, step);
+        equal_at(rt, got.status, wanted.0, &(code, step));
+        let bytes = blocks(rt, alloc, &input, wanted.1);
+        equal_at(rt, got.bytes, bytes, &(code, step));
+        equal_at(rt, got.complaint.as_str(), wanted.2, &(code, step));
+    }
+}
+
+#[test]
+fn expressions_are_compiled_for_each_link_type(rt: HostRuntime) {
+    let others: &[usize] = &[0, 1, 2, 4, 6, 8, 9, 11];
+    keeps(&rt, rt.alloc(), "ip", false, (0, others, ""));
+    let all: &[usize] = &[0, 1, 2, 3, 4, 5, 6, 7, 8, 9, 10, 11];
+    keeps(&rt, rt.alloc(), "ip", true, (0, all, ""));
+}
+
+/// What is before the first packet of a link type that lacks a layer is kept.
+#[test]
+fn an_expression_with_a_fault_over_one_link_type(rt: HostRuntime) {
+    let words =
+        "code column 1 Layer\ncolumn 1: packets have none of this here, by their link type or the tag before it\n    ether host 1:2:3:4:5:6\n    ^\n";
+    let before: &[usize] = &[0, 1, 2, 3, 4, 5, 6];
+    keeps(
+        &rt,
+        rt.alloc(),
+        "ether host 1:2:3:4:5:6",
+        true,
+        (1, before, words),
+    );
+}
+
+#[test]
+fn a_text_that_is_no_expression_keeps_nothing(rt: HostRuntime) {
+    let words =
+        "code column 1 Parenthesis\ncolumn 1: the other parenthesis or bracket is missing\n    (arp\n    ^\n";
+    keeps(&rt, rt.alloc(), "(arp", false, (1, &[], words));
 }
 
 /// How many bytes whole blocks have that end at a place or before it.

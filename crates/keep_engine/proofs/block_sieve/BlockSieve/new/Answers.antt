@@ -4,4 +4,4 @@ use Rattle.keep_engine.proofs.BlockSieveLemmas.{sifted_none}
 use Rattle.keep_engine.proofs.block_sieve.BlockSieve.new.Goals as goal
 
 pub returns : goal.returns
-returns c program wanted = sifted_none program wanted (record { feed = c.copying.result; fault = None; links = LinkTypes.None }) c.copying.ensures refl
+returns c programs wanted = sifted_none programs wanted (record { feed = c.copying.result; fault = None; links = LinkTypes.None }) c.copying.ensures refl

@@ -1,3 +1,4 @@
+use Rattle.console.specs.Programs.{programs_of}
 use Rattle.std.proofs.Common.{[], ◌∙◌, ap, arith, length, sym}
 use Rattle.keep_engine.proofs.sieve.Sieve.begin.Goals as goal
 
@@ -10,7 +11,7 @@ returns-in_ok-piece-2 c =
       λ short. (
         omega (arith, c.if-len-lt-MAGIC.false, c.len.ensures, c.extend_from_slice.new.self.ok.0, ap length c.in_ok-extend_from_slice.ensures.items),
         sym told ∙ c.if-is_pcapng.false,
-        sifts.goes [] [] (c.new-sieve-else-is_pcapng.ensures c.args.program.now c.args.wanted) short,
+        sifts.goes [] [] (c.new-sieve-else-is_pcapng.ensures (programs_of c.args.filter.now) c.args.wanted) short,
       ),
     )
 
@@ -23,6 +24,6 @@ returns-in_ok-piece c =
       λ short. (
         omega (arith, c.if-len-lt-MAGIC.false, c.len.ensures, c.extend_from_slice.new.self.ok.0, ap length c.in_ok-extend_from_slice.ensures.items),
         sym told ∙ c.if-is_pcapng.true,
-        sifts.goes [] [] (c.new-sieve.ensures c.args.program.now c.args.wanted) short,
+        sifts.goes [] [] (c.new-sieve.ensures (programs_of c.args.filter.now) c.args.wanted) short,
       ),
     )
