@@ -7,7 +7,7 @@ ghost use Rattle.command_line.specs.Program.{IsCommand, code, code_flag, command
 use crate::texts::{
     ABOUT, ASM_HELP, C_HELP, CAPTURE_HELP, CHECK_ABOUT, CHECK_DETAILS, CHECK_EXAMPLE,
     CODE_FILE_HELP, CODE_HELP, COMPILE_ABOUT, COMPILE_DETAILS, COMPILE_EXAMPLE, COMPILED_LINK_HELP,
-    COUNT_HELP, DDD_HELP, DECIMAL_CODE_HELP, DRAW_ABOUT, DRAW_DETAILS, DRAW_EXAMPLE, DUMP_ABOUT, DUMP_DETAILS,
+    COUNT_HELP, DDD_HELP, DRAW_ABOUT, DRAW_DETAILS, DRAW_EXAMPLE, DUMP_ABOUT, DUMP_DETAILS,
     DUMP_EXAMPLE, DUMP_STREAM_HELP, EXIT_STATUS, EXPLAIN_HELP, FILES_HELP, FILTER_HELP, GRAPH_HELP,
     HEX_HELP, INSNS_HELP, KEEP_ABOUT, KEEP_DETAILS, KEEP_EXAMPLE, KEPT_LINK_HELP, LINK_HELP,
     MATCH_ABOUT, MATCH_DETAILS, MATCH_EXAMPLE, NO_FILENAME_HELP, NOT_HELP, NUMBER_HELP,
@@ -55,7 +55,7 @@ fn with_command<'a>(
 }
 
 /// `match [--code] CODE [--stream] [--number] [--count] [--quiet] [--pcap | --hex] [--link LINK] [--snap N] [FILE]...`,
-/// `match CODE --explain [FILE]`
+/// `match [--code] CODE --explain [--link LINK] [--snap N] [FILE]`
 fn matching<'a>(alloc: Global) -> Result<Command<'a>, AllocError>
     ensures { IfOk result (IsCommand (codes "match") (code ∷ code_flag ∷ flag (codes "pcap") ∷ lone_flag (codes "hex") ∷ flag (codes "stream") ∷ flag (codes "number")
         ∷ flag (codes "count") ∷ lone_flag (codes "quiet") ∷ lone_flag (codes "explain") ∷ flag (codes "no-filename") ∷ link ∷ snap ∷ inputs ∷ [])) }
@@ -139,7 +139,7 @@ fn keeping<'a>(alloc: Global) -> Result<Command<'a>, AllocError>
     ensures { IfOk result (IsCommand (codes "keep") (code ∷ code_flag ∷ flag (codes "not") ∷ link ∷ file ∷ [])) }
 {
     described(alloc, "keep", KEEP_ABOUT, KEEP_DETAILS, KEEP_EXAMPLE)
-        .arg(decimal_code(alloc))?
+        .arg(code(alloc))?
         .arg(code_flag(alloc))?
         .arg(flag(alloc, "not", NOT_HELP))?
         .arg(link(alloc, KEPT_LINK_HELP))?
@@ -209,14 +209,6 @@ fn compiled_tree<'a>(alloc: Global) -> Result<Arg<'a>, AllocError>
     also_lone(tree, "graph")
 }
 
-/// `CODE` in decimal text, which must be given.
-fn decimal_code<'a>(alloc: Global) -> Arg<'a>
-    ensures rule { rule_of result ≡ code }
-    ensures local { result.global ≡ false }
-{
-    code(alloc).help(DECIMAL_CODE_HELP)
-}
-
 /// `CODE`, which must be given.
 fn code<'a>(alloc: Global) -> Arg<'a>
     ensures rule { rule_of result ≡ code }
@@ -257,8 +249,7 @@ fn explain<'a>(alloc: Global) -> Result<Arg<'a>, AllocError>
     let explain = also_lone(explain, "stream");
     let explain = also_lone(explain, "number");
     let explain = also_lone(explain, "count");
-    let explain = also_lone(explain, "quiet");
-    also_lone(explain, "link")
+    also_lone(explain, "quiet")
 }
 
 /// A flag that is refused beside one more, where it could be made.

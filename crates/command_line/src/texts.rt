@@ -46,9 +46,10 @@ packets), IPV4, IPV6 or LINUX_SLL2.
 Of several FILEs each line begins with the file's name and a colon, unless --no-filename is given; the status is the worst.
 
 With --number each line begins with its packet's number and a blank, and with --pcap the packet's time stamp and a blank come
-next: the seconds since 1970, and micro- or nanoseconds after a point, or `-` where it has none. --count prints `N of M` at the end
-in place of the lines: so many packets were accepted, of so many that were run; --quiet prints nothing and ends at the first
-packet that is accepted, with status 0. Where none is, its status is 4, or 1 for a refused CODE or input.
+next: the seconds since 1970, and micro- or nanoseconds after a point, or `-` where it has none. --count prints `N of M` at the
+end: so many packets were accepted, of so many that were run. It comes in place of the lines, or with --number after them.
+--quiet prints nothing and ends at the first packet that is accepted, with status 0. Where none is, its status is 4, or 1 for
+a refused CODE or input.
 
 The filter is verified first: each accepted filter ends on each packet, within as many steps as it has instructions. A
 CODE that is no filter, or that the verifier refuses, prints one line that says why, with status 1, and nothing is read. Of an
@@ -99,11 +100,11 @@ Is there an ARP packet in it?
 Why is this packet ARP?
 
     $ echo ffffffffffff0011223344550806 |
-      mkdemux match --explain '4,40 0 0 12,21 0 1 2054,6 0 0 4294967295,6 0 0 0'
+      mkdemux match --explain arp
     l0: ldh [12] A=2054 X=0
     l1: jeq #2054, l2, l3 A=2054 X=0
-    l2: ret #4294967295 A=2054 X=0
-    4294967295 3
+    l2: ret #262144 A=2054 X=0
+    262144 3
 
 Exit status: 0 done; 1 a refused CODE or input, whose line is on standard output; 2 a fault of the command line; 3 out of
 memory, a FILE that can't be opened or a device that failed, with one line on standard error; 4 with --quiet, where no
@@ -118,9 +119,6 @@ docs/messages.md has the meaning and the cure of each word that is printed:
 
 pub(crate) const CODE_HELP: &str =
     "The filter: an expression, such as 'tcp port 80', or decimal text, as `tcpdump -ddd` prints it";
-
-pub(crate) const DECIMAL_CODE_HELP: &str =
-    "The filter in decimal text, as `mkdemux compile` and `tcpdump -ddd` print it";
 
 pub(crate) const CODE_FILE_HELP: &str = "CODE is the name of a file that has the filter";
 
@@ -150,7 +148,7 @@ pub(crate) const NUMBER_HELP: &str =
     "Print each packet's number before its line, and with --pcap its time stamp";
 
 pub(crate) const COUNT_HELP: &str =
-    "Print how many packets were accepted, of how many, in place of a line for each";
+    "Print how many packets were accepted, of how many, in place of the lines, or with --number after them";
 
 pub(crate) const QUIET_HELP: &str =
     "Print nothing: status 0 at the first packet that is accepted, 4 where none is";
@@ -181,6 +179,10 @@ pub(crate) const KEEP_DETAILS: &str = "\
 Copy the capture in FILE, or on standard input, to standard output, but of its packets only those that the filter accepts:
 with a verdict above 0. With --not it copies those that the filter doesn't accept.
 
+CODE is an expression, as tcpdump takes it, if it begins with a letter, `(`, `!` or `\\`: `tcp port 80 and not host 10.0.0.1`
+(docs/expressions.md). All else is decimal text, as `tcpdump -ddd` prints it. With --code, CODE is the name of a file that has it.
+An expression is compiled for the link type of each packet's interface; decimal text is written for one.
+
 All else stays as it is, byte for byte and in order: of a pcap savefile its header and the records that are kept, of pcapng
 each block that is no packet or whose packet is kept. A filter that accepts every packet gives the capture itself.
 
@@ -188,29 +190,30 @@ The capture may be of any length and come over any time: each packet is written 
 read is handled, and it takes memory for the longest packet or block only.
 
 With --link LINK the filter runs on packets of that link type alone, as EN10MB, or 1, for Ethernet, and no packet of another
-link type is copied, with --not neither. Without it one line on standard error says where the interfaces of a capture have
-several link types, since decimal text is written for one.
+link type is copied, with --not neither. Without it one line on standard error says where CODE is decimal text and the
+interfaces of a capture have several link types.
 
 Standard output is a capture, so each line about what is wrong is on standard error. What was whole before a fault of the
 capture is written, then `fault NAME` is printed, with the fault's place in the file where it has one, and the status is 1.
-For a CODE that is no filter, or that the verifier refuses, one line says why, with status 1, and nothing is read or written.
-The status is 0 where no packet was kept, too.";
+So it ends before the first packet of a link type over which the expression has a fault: `code column C KIND` and three lines
+say why. For a CODE that is no filter, or that the verifier refuses, one line says why, or four of an expression, with status
+1, and nothing is read or written. The status is 0 where no packet was kept, too.";
 
 pub(crate) const KEEP_EXAMPLE: &str = "\
 Example: the ARP packets of a capture, and the others
 
-    $ mkdemux keep \"$(mkdemux compile arp)\" packets.pcap > arp.pcap
-    $ mkdemux keep --not \"$(mkdemux compile arp)\" packets.pcap > others.pcap
+    $ mkdemux keep arp packets.pcap > arp.pcap
+    $ mkdemux keep --not arp packets.pcap > others.pcap
 
 Packets of a device, while they come:
 
-    # tcpdump -U -w - | mkdemux keep \"$(mkdemux compile tcp port 80)\" > web.pcap
+    # tcpdump -U -w - | mkdemux keep 'tcp port 80' > web.pcap
 
 Exit status: 0 done; 1 a refused CODE or capture, whose line is on standard error; 2 a fault of the command line; 3 out of
 memory, a FILE that can't be opened or a device that failed, with one line on standard error.
 
 docs/messages.md has the meaning and the cure of each word that is printed:
-  after `code`     BadNumber CountMismatch TooLong
+  after `code`     BadNumber CountMismatch TooLong; `column C` and why an expression has no program
   after `refused`  Ancillary BadCode BadShift BadWord Empty JumpOut NoReturn Unwritten ZeroDivisor
   after `fault`    BadByteOrder BadCaptured BadLength BadMagic BadVersion LengthNotRepeated NoInterface TooLong
                    TooManyInterfaces Truncated TruncatedHeader TruncatedRecord";

@@ -35,7 +35,7 @@ text_alone : {R : Type 0} (request : Request) (choices : Choices) (remaining : R
 text_alone (Match code pcap stream) choices remaining old new status text s = absurd s
 text_alone (View code pcap view) choices remaining old new status text s = absurd s
 text_alone (Compile words listing) choices remaining old new status text s = (refl, s)
-text_alone (Explain code) choices remaining old new status text s = (refl, s)
+text_alone (Explain code) choices remaining old new status text s = absurd s
 text_alone (Keep code inverted) choices remaining old new status text s = absurd s
 text_alone (Check input asm) choices remaining old new status text s = (refl, s)
 text_alone (Graph input) choices remaining old new status text s = (refl, s)

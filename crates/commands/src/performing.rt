@@ -147,7 +147,15 @@ fn perform_alone<R: Read, W: Write>(
             writer,
             complaint,
         ),
-        Request::Explain { code } => run_explain(alloc, code.as_bytes(), reader, writer),
+        Request::Explain { code } => run_explain(
+            alloc,
+            code.as_bytes(),
+            choices.accept,
+            choices.link.unwrap_or(ETHERNET),
+            reader,
+            writer,
+            complaint,
+        ),
         Request::Check { input, asm } => run_check(alloc, read_as(*input), *asm, reader, writer),
         Request::Graph { input } => run_graph(alloc, read_as(*input), reader, writer),
         Request::Dump { stream, stamped } => {

@@ -35,6 +35,7 @@ pub use code::read_code;
 pub use code_fault::{push_code_fault, push_explanation};
 pub use dump_stream::run_dump_stream;
 pub use dumping::run_dump;
+pub use ending::{Ending, write_last};
 pub use expression::{BadCode, is_expression, read_filter};
 pub use fault_words::{
     name_of_asm_fault, push_capture_words, push_code_words, push_read_words, push_refusal_words,

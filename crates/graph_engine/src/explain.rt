@@ -1,15 +1,15 @@
 //! `match --explain`: the instructions that the machine takes.
 
-ghost use Rattle.std.specs.Prelude.{◌≡◌, ◌<◌, ◌≤◌, ◌^◌, ◌++◌, ◌⊎◌, ℕ, List, length, Ok, IfOk, IfErr, IsErr, IsErrOf, MatchOption, OnOk, flat_map, string_bytes, ⊤, [], false};
+ghost use Rattle.std.specs.Prelude.{◌≡◌, ◌<◌, ◌≤◌, ◌^◌, ◌++◌, ◌⊎◌, ℕ, List, length, Ok, Option, IfOk, IfErr, IsErr, IsErrOf, MatchOption, OnOk, flat_map, string_bytes, ⊤, [], false};
 ghost use Rattle.std.specs.List.{All};
 ghost use Rattle.std.specs.Str.Lines.{lines};
 ghost use Rattle.hex.specs.Hex.{decode_of};
 ghost use Rattle.std.specs.Option.{option_map_or};
 ghost use Rattle.bpf_insn.specs.AsmText.{printed};
 ghost use Rattle.bpf_insn.specs.Program.{form_at};
-ghost use Rattle.bpf_insn.specs.declared.insn.Insn.{Insn};
-ghost use Rattle.filter_verify.specs.Rules.{Sound};
-ghost use Rattle.console.specs.Code.{IsGoodCode, ShowsBadCode};
+ghost use Rattle.console.specs.declared.filter.CodeFault.{CodeFault};
+ghost use Rattle.console.specs.Expressions.{IsFilter, ShowsBadFilter, explanation_of};
+ghost use Rattle.console.specs.Programs.{Programs, programs_of};
 ghost use Rattle.engine_io.specs.declared.input.TheConstants.{INPUT_BYTES, INPUT_READS};
 ghost use Rattle.engine_io.specs.Devices.{EndsEarly, EndsWell, IsFresh, Writes};
 ghost use Rattle.engine_io.specs.Reading.{IsEngineFault};
@@ -17,56 +17,113 @@ ghost use Rattle.engine_io.specs.Reading.{IsInput, most_taken};
 ghost use Rattle.graph_engine.specs.Explaining as spec;
 
 use bpf_insn::{Insn, push_form};
-use console::{decode, first_line, push_bad_line, push_outcome, read_code};
-use engine_io::{EngineFault, Shown, Sink, Source, show_input, write_text};
+use console::{Ending, Filter, decode, first_line, push_outcome, read_filter, write_last};
+use engine_io::{
+    EngineFault, INPUT_BYTES, Input, Sink, Source, read_bounded, refuse_long, write_text,
+};
 use filter_verify::Verified;
 use filter_vm::{Outcome, Taken, trace_run};
 use std::alloc::{AllocError, Global};
 use std::fmt::Write as FmtWrite;
 use std::io::{Read, Write};
 
-/// Explains the runs of the filter that `code` spells, in decimal text, on the packets of the input, and answers the status.
+/// Explains the runs of the filter of `code`, an expression or decimal text, on the packets of the input, and answers the status.
 ///
-/// Code and input are those of `match`: a packet is a line of hexadecimal digits. For each packet it writes a line for each
-/// instruction that was taken, `lPC: INSTRUCTION A=N X=N`, with the two registers after it, and then the outcome, as `match`
-/// writes it; status 0. At the first line that is no packet it writes `line N: BadHex`, and ends with status 1; of an input
-/// of more than 64 MiB only `fault InputTooLong`, status 1. For a code that is no program, or that the verifier refuses, it
-/// writes one line that says why, with status 1, and reads nothing.
+/// Code and input are those of `match`: a packet is a line of hexadecimal digits, of the link type `link`; an expression accepts with the
+/// verdict `accept`. For each packet it writes a line for each instruction that was taken, `lPC: INSTRUCTION A=N X=N`, with the two
+/// registers after it, and then the outcome, as `match` writes it; status 0. At the first line that is no packet it writes
+/// `line N: BadHex`, and ends with status 1; so it does with `code column C KIND` or `code link N` at the first packet, where the
+/// expression has a fault over the link type. Of an input of more than 64 MiB it writes only `fault InputTooLong`, status 1. For a code
+/// that gives nothing to run it writes one line that says why, with status 1, and reads nothing. What a fault of an expression means is
+/// appended to `complaint`.
 ///
 /// All text is kept to the end. Answers `ReadFailed` or `NoMemory`, with nothing written, or `WriteFailed`.
 pub fn run_explain<R: Read, W: Write>(
     alloc: Global,
     code: &[u8],
+    accept: u32,
+    link: u32,
     reader: &mut Source<R>,
     writer: &mut Sink<W>,
+    complaint: &mut String,
 ) -> Result<u8, EngineFault>
     requires fresh { IsFresh reader.old INPUT_READS }
     requires good { writer.old.failed ≡ false }
-    ensures shown { IfOk result (λ status. (text : List ℕ) × Writes W.contents writer.old writer.new text
-        × ((ShowsBadCode code.now text × (status ≡ 1))
-        ⊎ ((input : List ℕ) × IsInput R.remaining reader.old reader.new input × spec.ShowsExplained code.now input status text))) }
-    ensures unread { ((program : List Insn) → IsGoodCode code.now program → ⊥) → reader.new ≡ reader.old }
+    ensures shown { IfOk result (λ status. (text : List ℕ) × (words : List ℕ) × Writes W.contents writer.old writer.new text
+        × (string_bytes complaint.new ≡ string_bytes complaint.old ++ words)
+        × ((ShowsBadFilter code.now text words × (status ≡ 1))
+        ⊎ ((input : List ℕ) × IsInput R.remaining reader.old reader.new input × spec.ShowsExplained code.now accept link input status text words))) }
+    ensures unread { ((programs : Programs) → IsFilter code.now accept programs → ⊥) → reader.new ≡ reader.old }
     ensures fault { IfErr result IsEngineFault }
     ensures well { IfOk result (λ _. (writer.new.failed ≡ false) × ((reader.new ≡ reader.old) ⊎ EndsWell reader.new writer.new INPUT_BYTES)) }
     ensures cause { IfErr result (EndsEarly reader.new writer.new) }
     ensures most { reader.new.taken ≤ most_taken }
     ensures silent { IsErrOf result EngineFault.ReadFailed ⊎ IsErrOf result EngineFault.NoMemory → writer.new ≡ writer.old }
 {
-    match read_code(alloc, code)? {
-        Ok(program) => show_input(alloc, reader, writer, |input| {
-            explain_lines(alloc, &program, input)
-        }),
-        Err(line) => {
-            write_text(writer, line.as_str())?;
+    match read_filter(alloc, code, accept)? {
+        Ok(filter) => explain_input(alloc, code, &filter, link, reader, writer, complaint),
+        Err(bad) => {
+            complaint.push_str(bad.words.as_str())?;
+            write_text(writer, bad.line.as_str())?;
             Ok(1)
         }
     }
 }
 
-/// What is shown of the lines of an input.
-fn explain_lines(alloc: Global, program: &Verified, input: &[u8]) -> Result<Shown, AllocError>
+/// Explains the runs on the packets of an input.
+fn explain_input<R: Read, W: Write>(
+    alloc: Global,
+    code: &[u8],
+    filter: &Filter,
+    link: u32,
+    reader: &mut Source<R>,
+    writer: &mut Sink<W>,
+    complaint: &mut String,
+) -> Result<u8, EngineFault>
+    requires unread { reader.old.taken ≡ 0 }
+    requires open { (reader.old.ended ≡ false) × (reader.old.failed ≡ false) }
+    requires good { writer.old.failed ≡ false }
+    ensures shown { IfOk result (λ status. (text : List ℕ) × (stop : Option CodeFault) × Writes W.contents writer.old writer.new text
+        × ((input : List ℕ) × IsInput R.remaining reader.old reader.new input × spec.ShowsInput (programs_of filter.now) link input status text stop)
+        × (string_bytes complaint.new ≡ string_bytes complaint.old ++ explanation_of code.now stop)) }
+    ensures fault { IfErr result IsEngineFault }
+    ensures well { IfOk result (λ _. EndsWell reader.new writer.new INPUT_BYTES) }
+    ensures cause { IfErr result (EndsEarly reader.new writer.new) }
+    ensures most { reader.new.taken ≤ most_taken }
+    ensures silent { IsErrOf result EngineFault.ReadFailed ⊎ IsErrOf result EngineFault.NoMemory → writer.new ≡ writer.old }
+{
+    match read_bounded(alloc, reader, INPUT_BYTES)? {
+        Input::TooLong => refuse_long(writer),
+        Input::Whole(input) => {
+            let explained = explain_lines(alloc, filter, link, input.as_slice())?;
+            write_last(
+                alloc,
+                code,
+                explained.text,
+                explained.ending,
+                writer,
+                complaint,
+            )
+        }
+    }
+}
+
+/// The explanations of the runs on packets, and what comes after them.
+#[derive(Drop)]
+struct Explained {
+    text: String,
+    ending: Ending,
+}
+
+/// Explains the run on the packet of each line, up to the first line that isn't run.
+fn explain_lines(
+    alloc: Global,
+    filter: &Filter,
+    link: u32,
+    input: &[u8],
+) -> Result<Explained, AllocError>
     requires { length input.now < 2 ^ 32 }
-    ensures { IfOk result (λ shown. spec.ShowsLines program.now (lines input.now) shown.status shown.text.items) }
+    ensures { IfOk result (λ explained. spec.ExplainsLines (programs_of filter.now) link (lines input.now) explained.ending (string_bytes explained.text)) }
 {
     let mut text = String::new(alloc);
     let mut rest = input;
@@ -75,19 +132,28 @@ fn explain_lines(alloc: Global, program: &Verified, input: &[u8]) -> Result<Show
         rest = more;
         number += 1;
         match packet_of(alloc, line)? {
-            Some(packet) => push_explanation(alloc, &mut text, program, packet.as_slice())?,
+            Some(packet) => match filter.program(link) {
+                Ok(program) => {
+                    push_explanation(alloc, &mut text, program.program(), packet.as_slice())?;
+                }
+                Err(fault) => {
+                    return Ok(Explained {
+                        text,
+                        ending: Ending::Refused(fault),
+                    });
+                }
+            },
             None => {
-                push_bad_line(&mut text, number)?;
-                return Ok(Shown {
-                    text: text.into_bytes(),
-                    status: 1,
+                return Ok(Explained {
+                    text,
+                    ending: Ending::BadLine(number),
                 });
             }
         }
     }
-    Ok(Shown {
-        text: text.into_bytes(),
-        status: 0,
+    Ok(Explained {
+        text,
+        ending: Ending::Done,
     })
 }
 
@@ -113,7 +179,7 @@ fn push_explanation(
 ) -> Result<(), AllocError>
     requires { length packet.now < 2 ^ 32 }
     ensures { OnOk result ((line : List ℕ) → decode_of line ≡ Ok packet.now
-        → (more : List ℕ) × spec.Explains program.now line more × (string_bytes text.new ≡ string_bytes text.old ++ more)) }
+        → (more : List ℕ) × spec.ExplainsBy program.now line more × (string_bytes text.new ≡ string_bytes text.old ++ more)) }
 {
     let run = trace_run(alloc, program, packet, packet.len() as u32)?;
     push_all_taken(text, program.code(), run.taken.as_slice())?;

@@ -19,7 +19,7 @@ use Rattle.pcapng_reader.specs.Packets.{captured_in, packets_by}
 use Rattle.console.specs.declared.filter.CodeFault.{CodeFault}
 use Rattle.console.specs.Programs.{Programs}
 use Rattle.console.proofs.RunningLemmas.{AllZip-append}
-use Rattle.keep_engine.specs.declared.choice.Kept.{Kept}
+use Rattle.keep_engine.specs.declared.choice.KeptBytes.{KeptBytes}
 use Rattle.keep_engine.specs.declared.choice.Wanted.{Wanted}
 use Rattle.keep_engine.specs.declared.block_sieve.BlockSieve.{BlockSieve}
 use Rattle.keep_engine.specs.Keeping.{Decides, KeepsBlocks, Leaves, LeavesBy, Part, part_of}
@@ -36,7 +36,7 @@ none_packet : (p : PacketEntry) (captured : List ℕ) → ◌≡◌ {A = List (P
 none_packet p captured e = cc
 
 -- a block with a packet
-kept_packet : (programs : Programs) (wanted : Wanted) (content : Content) (bytes : List ℕ) (p : PacketEntry) (captured : List ℕ) (before after : Kept) → packets_by content bytes ≡ (p, captured) ∷ []
+kept_packet : (programs : Programs) (wanted : Wanted) (content : Content) (bytes : List ℕ) (p : PacketEntry) (captured : List ℕ) (before after : KeptBytes) → packets_by content bytes ≡ (p, captured) ∷ []
     → (answer : Result Bool CodeFault) × Decides programs wanted p.link (record { bytes = captured; original = p.original }) answer × Appends (part_of bytes answer ∷ []) before after
     → (part : Part) × LeavesBy programs wanted content bytes part × Appends (part ∷ []) before after
 kept_packet programs wanted (Packet entry) bytes p captured before after is (answer, decided, pushed) =
@@ -48,7 +48,7 @@ kept_packet programs wanted (Interface i) bytes p captured before after is one =
 kept_packet programs wanted Other bytes p captured before after is one = absurd (none_packet p captured is)
 
 -- a block without one
-kept_other : (programs : Programs) (wanted : Wanted) (content : Content) (bytes : List ℕ) (before after : Kept) → packets_by content bytes ≡ [] → Appends (Ok bytes ∷ []) before after
+kept_other : (programs : Programs) (wanted : Wanted) (content : Content) (bytes : List ℕ) (before after : KeptBytes) → packets_by content bytes ≡ [] → Appends (Ok bytes ∷ []) before after
     → (part : Part) × LeavesBy programs wanted content bytes part × Appends (part ∷ []) before after
 kept_other programs wanted (Packet entry) bytes before after is pushed = absurd (none_packet entry (captured_in entry bytes) (sym is))
 kept_other programs wanted (Section h) bytes before after is pushed = (Ok bytes, refl, pushed)
@@ -57,14 +57,14 @@ kept_other programs wanted Other bytes before after is pushed = (Ok bytes, refl,
 
 -- A piece
 
-pub nothing_sifted : {S : Type 0} (Has : List ℕ → S → List Part → Type 0) (sieve : S) (before : Kept) → Sifts Has [] sieve sieve before before
+pub nothing_sifted : {S : Type 0} (Has : List ℕ → S → List Part → Type 0) (sieve : S) (before : KeptBytes) → Sifts Has [] sieve sieve before before
 nothing_sifted Has sieve before = record {
   more = [];
   pushed = appends_none before;
   goes = λ taken kept was short. rw (append-nil taken, append-nil kept) was;
 }
 
-pub sifts_then : {S : Type 0} (Has : List ℕ → S → List Part → Type 0) (front piece : List ℕ) (old mid new : S) (before between after : Kept) → Sifts Has front old mid before between → Sifts Has piece mid new between after
+pub sifts_then : {S : Type 0} (Has : List ℕ → S → List Part → Type 0) (front piece : List ℕ) (old mid new : S) (before between after : KeptBytes) → Sifts Has front old mid before between → Sifts Has piece mid new between after
     → Sifts Has (front ++ piece) old new before after
 sifts_then Has front piece old mid new before between after first second = record {
   more = first.more ++ second.more;
@@ -117,7 +117,7 @@ still_going old new None is going stays = is
 still_going old new (Some fault) is going stays =
     let e : ◌≡◌ {A = Option CaptureFault} None (Some fault) = sym going ∙ ap held_fault (stays fault is) ∙ is in absurd (cc)
 
-held_sifts : (programs : Programs) (wanted : Wanted) (rest rest' : List ℕ) (old new : BlockSieve) (held : Option WholeBlock) (before after : Kept) → (takes : Takes rest rest' old.feed new.feed Held) → held_block new.feed ≡ held
+held_sifts : (programs : Programs) (wanted : Wanted) (rest rest' : List ℕ) (old new : BlockSieve) (held : Option WholeBlock) (before after : KeptBytes) → (takes : Takes rest rest' old.feed new.feed Held) → held_block new.feed ≡ held
     → copies_all new.feed ≡ copies_all old.feed → held_fault new.feed ≡ None → ((fault : CaptureFault) → held_fault old.feed ≡ Some fault → new.feed ≡ old.feed) → new.fault ≡ old.fault → KeepsHeld programs wanted held before after
     → Sifts (HasSiftedBlocks programs wanted) takes.front old new before after
 held_sifts programs wanted rest rest' old new None before after takes is copies going stays same keeps = record {
@@ -142,7 +142,7 @@ held_sifts programs wanted rest rest' old new (Some block) before after takes is
     one_held block other e = cc
 
 -- what a step made of the bytes that it took
-pub step_sifts : (programs : Programs) (wanted : Wanted) (rest rest' : List ℕ) (old new : BlockSieve) (step : FeedStep) (before after : Kept) → (takes : Takes rest rest' old.feed new.feed step) → HasBytes (copies_all old.feed) step
+pub step_sifts : (programs : Programs) (wanted : Wanted) (rest rest' : List ℕ) (old new : BlockSieve) (step : FeedStep) (before after : KeptBytes) → (takes : Takes rest rest' old.feed new.feed step) → HasBytes (copies_all old.feed) step
     → copies_all new.feed ≡ copies_all old.feed → held_fault new.feed ≡ None → ((fault : CaptureFault) → held_fault old.feed ≡ Some fault → new.feed ≡ old.feed) → new.fault ≡ old.fault → KeepsStep programs wanted new.feed step before after
     → Sifts (HasSiftedBlocks programs wanted) takes.front old new before after
 step_sifts programs wanted rest rest' old new (Block block) before after takes bytes copies going stays same (part, leaves, pushed) = record {
@@ -173,7 +173,7 @@ has_block false block = tt
 no_stay : (fault : CaptureFault) (o : Option CaptureFault) {A : Type 0} → o ≡ None → o ≡ Some fault → A
 no_stay fault o none some = let e : ◌≡◌ {A = Option CaptureFault} None (Some fault) = sym none ∙ some in absurd (cc)
 
-pub skim_sifts : (programs : Programs) (wanted : Wanted) (rest rest' : List ℕ) (old new : BlockSieve) (skimmed : Skimmed) (before after : Kept) → (skims : Skims rest rest' old.feed new.feed skimmed) → new.fault ≡ old.fault → KeepsSkimmed programs wanted skimmed before after
+pub skim_sifts : (programs : Programs) (wanted : Wanted) (rest rest' : List ℕ) (old new : BlockSieve) (skimmed : Skimmed) (before after : KeptBytes) → (skims : Skims rest rest' old.feed new.feed skimmed) → new.fault ≡ old.fault → KeepsSkimmed programs wanted skimmed before after
     → Sifts (HasSiftedBlocks programs wanted) skims.takes.front old new before after
 skim_sifts programs wanted rest rest' old new skimmed before after skims same (answer, decided, pushed) =
     let block : SeenBlock = record { offset = (place_of old.feed).offset; bytes = skimmed.block; content = Packet skimmed.packet } in
@@ -182,7 +182,7 @@ skim_sifts programs wanted rest rest' old new skimmed before after skims same (a
     (part_of skimmed.block.now answer, (answer, was, refl), pushed)
 
 -- a fault in the bytes that are left
-pub fault_sifts : (programs : Programs) (wanted : Wanted) (rest rest' : List ℕ) (old new : BlockSieve) (fault : CaptureFault) (before : Kept) → Advances rest rest' old.feed new.feed (Err fault) → fault ≢ NoMemory
+pub fault_sifts : (programs : Programs) (wanted : Wanted) (rest rest' : List ℕ) (old new : BlockSieve) (fault : CaptureFault) (before : KeptBytes) → Advances rest rest' old.feed new.feed (Err fault) → fault ≢ NoMemory
     → copies_all new.feed ≡ copies_all old.feed → held_fault new.feed ≡ Some fault → new.fault ≡ Some fault → Sifts (HasSiftedBlocks programs wanted) rest old new before before
 fault_sifts programs wanted rest rest' old new fault before advances other copies is same = record {
   more = [];
@@ -204,7 +204,7 @@ fault_sifts programs wanted rest rest' old new fault before advances other copie
     holds_stopped given fed feed fault is stopped = let all : HoldsAt given fed feed (Some fault) = stopped in rw is all
 
 -- so it is where the fault wasn't a refusal of memory
-pub stopped_sifts : {E : Type 0} (r : Result (Unit {0}) E) (programs : Programs) (wanted : Wanted) (piece front rest rest' : List ℕ) (old mid new : BlockSieve) (feed : BlockFeed) (fault : CaptureFault) (before after : Kept) → piece ≡ front ++ rest
+pub stopped_sifts : {E : Type 0} (r : Result (Unit {0}) E) (programs : Programs) (wanted : Wanted) (piece front rest rest' : List ℕ) (old mid new : BlockSieve) (feed : BlockFeed) (fault : CaptureFault) (before after : KeptBytes) → piece ≡ front ++ rest
     → Sifts (HasSiftedBlocks programs wanted) front old mid before after → Advances rest rest' mid.feed feed (Err fault) → copies_all feed ≡ copies_all mid.feed → held_fault feed ≡ Some fault
     → OnOk r ((fault ≢ NoMemory) × (new.feed ≡ feed) × (new.fault ≡ Some fault)) → OnOk r (Sifts (HasSiftedBlocks programs wanted) piece old new before after)
 stopped_sifts (Err e) programs wanted piece front rest rest' old mid new feed fault before after parts so advances copies is stops = tt

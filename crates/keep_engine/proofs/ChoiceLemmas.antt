@@ -2,7 +2,7 @@
 use Rattle.std.proofs.Common.{◌≡◌, ℕ, List, [], ◌∷◌, ◌++◌, Option, Some, None, Result, Ok, Err, refl, sym, ap, ap₂, ◌∙◌, append_assoc}
 use Rattle.std.proofs.lemmas.List.{append-nil}
 use Rattle.console.specs.declared.filter.CodeFault.{CodeFault}
-use Rattle.keep_engine.specs.declared.choice.Kept.{Kept}
+use Rattle.keep_engine.specs.declared.choice.KeptBytes.{KeptBytes}
 use Rattle.keep_engine.specs.Keeping.{Part, stop_of, text_of}
 use Rattle.keep_engine.specs.Sieving.{Appends, stop_after, text_after}
 
@@ -14,7 +14,7 @@ stop_none : (stop : Option CodeFault) → stop ≡ stop_after stop []
 stop_none None = refl
 stop_none (Some fault) = refl
 
-pub appends_none : (kept : Kept) → Appends [] kept kept
+pub appends_none : (kept : KeptBytes) → Appends [] kept kept
 appends_none kept = (text_none kept.stop kept.bytes.items, stop_none kept.stop)
 
 -- bytes that are none
@@ -26,7 +26,7 @@ going_on : (stop : Option CodeFault) → stop ≡ stop_after stop (Ok [] ∷ [])
 going_on None = refl
 going_on (Some fault) = refl
 
-pub appends_nothing : (kept : Kept) → Appends (Ok [] ∷ []) kept kept
+pub appends_nothing : (kept : KeptBytes) → Appends (Ok [] ∷ []) kept kept
 appends_nothing kept = (nothing_after kept.stop kept.bytes.items, going_on kept.stop)
 
 -- some parts and then others
@@ -49,7 +49,7 @@ stop_then : (stop : Option CodeFault) (kept more : List Part) → stop_after sto
 stop_then None kept more = stop_on kept more
 stop_then (Some fault) kept more = refl
 
-pub appends_then : (kept more : List Part) (before between after : Kept) → Appends kept before between → Appends more between after → Appends (kept ++ more) before after
+pub appends_then : (kept more : List Part) (before between after : KeptBytes) → Appends kept before between → Appends more between after → Appends (kept ++ more) before after
 appends_then kept more before between after first second = (
   second.0 ∙ ap₂ (λ s t. text_after s more t) first.1 first.0 ∙ sym (text_then before.stop kept more before.bytes.items),
   second.1 ∙ ap (λ s. stop_after s more) first.1 ∙ sym (stop_then before.stop kept more),

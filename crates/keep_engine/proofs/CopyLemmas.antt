@@ -26,10 +26,10 @@ use Rattle.engine_io.proofs.KnownBytesLemmas.{gets-kept, gets-nothing, gets-then
 use Rattle.console.proofs.StreamingLemmas.{begins_itself}
 use Rattle.console.specs.CodeWords.{code_fault_line}
 use Rattle.console.specs.Expressions.{IsFilter, ShowsBadFilter, explanation}
-use Rattle.keep_engine.specs.declared.choice.Kept.{Kept}
+use Rattle.keep_engine.specs.declared.choice.KeptBytes.{KeptBytes}
 use Rattle.keep_engine.specs.declared.choice.Wanted.{Wanted}
-use Rattle.keep_engine.specs.declared.keeping.Ending.{Ending}
-use Rattle.keep_engine.specs.declared.keeping.Ending.TheVariants.{Capture, Code}
+use Rattle.keep_engine.specs.declared.keeping.CopyEnd.{CopyEnd}
+use Rattle.keep_engine.specs.declared.keeping.CopyEnd.TheVariants.{Capture, Code}
 use Rattle.keep_engine.specs.declared.block_sieve.BlockSieve.{BlockSieve}
 use Rattle.capture_reader.specs.declared.fault.ReadFault.{ReadFault}
 use Rattle.keep_engine.specs.declared.sieve.Sieve.{Sieve}
@@ -183,13 +183,13 @@ pub record Taken {R W : Type 0} (programs : Programs) (wanted : Wanted) (remaini
   pub appended : Writes contents old new (text_of kept)
   pub count : at.taken ≡ length input
 
-more_text : (more : List Part) (before after : Kept) → before.bytes.items ≡ [] → before.stop ≡ None → Appends more before after → (after.bytes.items ≡ text_of more) × (after.stop ≡ stop_of more)
+more_text : (more : List Part) (before after : KeptBytes) → before.bytes.items ≡ [] → before.stop ≡ None → Appends more before after → (after.bytes.items ≡ text_of more) × (after.stop ≡ stop_of more)
 more_text more before after none going pushed = (
   pushed.0 ∙ ap₂ (λ s t. text_after s more t) going none,
   pushed.1 ∙ ap (λ s. stop_after s more) going,
 )
 
-pub taken_next : (programs : Programs) (wanted : Wanted) {R W : Type 0} {remaining : R → Option (List ℕ)} {contents : W → Option (List ℕ)} (from at at' : Source R) (old new last : Sink W) (sieve sieve' : Sieve) (piece : List ℕ) (before after : Kept) (count : ℕ)
+pub taken_next : (programs : Programs) (wanted : Wanted) {R W : Type 0} {remaining : R → Option (List ℕ)} {contents : W → Option (List ℕ)} (from at at' : Source R) (old new last : Sink W) (sieve sieve' : Sieve) (piece : List ℕ) (before after : KeptBytes) (count : ℕ)
     → Copied programs wanted remaining from at contents old new sieve → Gets remaining at at' piece → at'.taken ≡ at.taken + count → length piece ≡ count → at'.taken < 2 ^ 64 → before.bytes.items ≡ [] → before.stop ≡ None
     → Sifts (HasSifted programs wanted) piece sieve sieve' before after → Writes contents new last after.bytes.items
     → Taken programs wanted remaining from at' contents old last sieve' after.stop
@@ -241,7 +241,7 @@ left_read (Err e) programs wanted from at at' old new sieve piece so lost = (
 )
 
 -- and where what was kept of it wasn't written
-pub left_wrote : {T E : Type 0} (r : Result T E) (programs : Programs) (wanted : Wanted) {R W : Type 0} {remaining : R → Option (List ℕ)} {contents : W → Option (List ℕ)} (from at at' : Source R) (old new last : Sink W) (sieve sieve' : Sieve) (piece : List ℕ) (before after : Kept)
+pub left_wrote : {T E : Type 0} (r : Result T E) (programs : Programs) (wanted : Wanted) {R W : Type 0} {remaining : R → Option (List ℕ)} {contents : W → Option (List ℕ)} (from at at' : Source R) (old new last : Sink W) (sieve sieve' : Sieve) (piece : List ℕ) (before after : KeptBytes)
     → Copied programs wanted remaining from at contents old new sieve → Gets remaining at at' piece → at'.taken ≡ at.taken + length piece → at'.taken < 2 ^ 64 → before.bytes.items ≡ [] → before.stop ≡ None → Sifts (HasSifted programs wanted) piece sieve sieve' before after
     → (front : List ℕ) × BeginsWith front after.bytes.items × Writes contents new last front
     → OnErr r (Left programs wanted remaining from at' contents old last)
@@ -268,7 +268,7 @@ keeps_front programs wanted input kept fault (inr (other, wrong, is, inr none)) 
 keeps_front programs wanted input kept fault (inr (other, wrong, is, inl (h, keeps))) =
     savefile_front programs wanted input keeps.capture.head keeps.capture.rest kept keeps.capture.records keeps.packets keeps.answers h other keeps.capture.parts keeps.capture.header keeps.capture.each keeps.decided keeps.is
 
-ends_front : (programs : Programs) (wanted : Wanted) (input text : List ℕ) (ending : Ending) → EndsKept programs wanted input ending text → KeepsFront programs wanted input text
+ends_front : (programs : Programs) (wanted : Wanted) (input text : List ℕ) (ending : CopyEnd) → EndsKept programs wanted input ending text → KeepsFront programs wanted input text
 ends_front programs wanted input text (Capture fault) (kept, is, keeps, going) = rw is (written_front programs wanted input kept (keeps_front programs wanted input kept fault keeps))
 ends_front programs wanted input text (Code stop) (kept, is, front, met) = rw is (written_front programs wanted input kept (inr front))
 
@@ -282,7 +282,7 @@ left_none (Err e) code accept wanted remaining contents from to = ([], gets-noth
 
 
 -- and where its lines weren't made
-pub left_of_code : {T E : Type 0} (r : Result T E) (code : List ℕ) (accept : ℕ) (programs : Programs) (wanted : Wanted) {R W : Type 0} {remaining : R → Option (List ℕ)} {contents : W → Option (List ℕ)} (from at : Source R) (old new : Sink W) (ending : Ending) → IsFilter code accept programs
+pub left_of_code : {T E : Type 0} (r : Result T E) (code : List ℕ) (accept : ℕ) (programs : Programs) (wanted : Wanted) {R W : Type 0} {remaining : R → Option (List ℕ)} {contents : W → Option (List ℕ)} (from at : Source R) (old new : Sink W) (ending : CopyEnd) → IsFilter code accept programs
     → (input : List ℕ) × Gets remaining from at input × (text : List ℕ) × Writes contents old new text × EndsKept programs wanted input ending text × (IsAtEnd (remaining at.inner) ⊎ IsStopped ending)
     → OnErr r ((input : List ℕ) × Gets remaining from at input × (text : List ℕ) × Writes contents old new text × KeepsPart code accept wanted input text)
 left_of_code (Ok v) code accept programs wanted from at old new ending good so = tt
@@ -292,17 +292,17 @@ some_status : (fault : Option ReadFault) (status : ℕ) (line : List ℕ) → Is
 some_status None status line some says = absurd (cc)
 some_status (Some fault) status line some says = says.0
 
-stopped_status : (code : List ℕ) (ending : Ending) (status : ℕ) (lines : List ℕ) → IsStopped ending → SaysEnding code ending status lines → status ≡ 1
+stopped_status : (code : List ℕ) (ending : CopyEnd) (status : ℕ) (lines : List ℕ) → IsStopped ending → SaysEnding code ending status lines → status ≡ 1
 stopped_status code (Capture fault) status lines some says = some_status fault status lines some says
 stopped_status code (Code stop) status lines some says = says.0
 
-keeps_input : (code : List ℕ) (programs : Programs) (wanted : Wanted) (input text : List ℕ) (ending : Ending) (status : ℕ) (lines : List ℕ) → EndsKept programs wanted input ending text → SaysEnding code ending status lines
+keeps_input : (code : List ℕ) (programs : Programs) (wanted : Wanted) (input text : List ℕ) (ending : CopyEnd) (status : ℕ) (lines : List ℕ) → EndsKept programs wanted input ending text → SaysEnding code ending status lines
     → KeepsInput code programs wanted input status lines text
 keeps_input code programs wanted input text (Capture fault) status lines (kept, is, keeps, going) says = (kept, is, inl (fault, keeps, going, says))
 keeps_input code programs wanted input text (Code stop) status lines (kept, is, front, met) says = (kept, is, inr (stop, front, met, says.0, says.1))
 
 -- what is kept of a good code
-pub kept_of_code : (code : List ℕ) (accept : ℕ) (programs : Programs) (wanted : Wanted) {R W : Type 0} {remaining : R → Option (List ℕ)} {contents : W → Option (List ℕ)} (from at : Source R) (old new : Sink W) (ending : Ending) (status : ℕ) (before after : List ℕ) → IsFilter code accept programs
+pub kept_of_code : (code : List ℕ) (accept : ℕ) (programs : Programs) (wanted : Wanted) {R W : Type 0} {remaining : R → Option (List ℕ)} {contents : W → Option (List ℕ)} (from at : Source R) (old new : Sink W) (ending : CopyEnd) (status : ℕ) (before after : List ℕ) → IsFilter code accept programs
     → (input : List ℕ) × Gets remaining from at input × (text : List ℕ) × Writes contents old new text × EndsKept programs wanted input ending text × (IsAtEnd (remaining at.inner) ⊎ IsStopped ending)
     → (lines : List ℕ) × (after ≡ before ++ lines) × SaysEnding code ending status lines
     → (text : List ℕ) × Writes contents old new text × (lines : List ℕ) × (after ≡ before ++ lines)

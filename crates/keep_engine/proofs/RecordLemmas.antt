@@ -13,7 +13,7 @@ use Rattle.capture_reader.specs.Entries.{savefile_link}
 use Rattle.console.specs.declared.filter.CodeFault.{CodeFault}
 use Rattle.console.specs.Programs.{Programs}
 use Rattle.console.proofs.RunningLemmas.{AllZip-append}
-use Rattle.keep_engine.specs.declared.choice.Kept.{Kept}
+use Rattle.keep_engine.specs.declared.choice.KeptBytes.{KeptBytes}
 use Rattle.keep_engine.specs.declared.choice.Wanted.{Wanted}
 use Rattle.keep_engine.specs.Keeping.{Decides, part_of, parts_of}
 use Rattle.keep_engine.specs.Sieving.{Appends, KeepsOne, TakesRecords}
@@ -31,7 +31,7 @@ parts-append programs wanted h (r ∷ records) records' (p ∷ packets) [] answe
 parts-append programs wanted h (r ∷ records) records' (p ∷ packets) (a ∷ answers) answers' each decided =
     ap (λ t. part_of r a ∷ t) (parts-append programs wanted h records records' packets answers answers' each.1 decided.1)
 
-pub takes_none : (programs : Programs) (wanted : Wanted) (h : Header) (bytes : List ℕ) (kept : Kept) → TakesRecords programs wanted h bytes bytes kept kept
+pub takes_none : (programs : Programs) (wanted : Wanted) (h : Header) (bytes : List ℕ) (kept : KeptBytes) → TakesRecords programs wanted h bytes bytes kept kept
 takes_none programs wanted h bytes kept = record {
   records = [];
   packets = [];
@@ -43,7 +43,7 @@ takes_none programs wanted h bytes kept = record {
 }
 
 -- one record more
-pub takes_next : (programs : Programs) (wanted : Wanted) (h : Header) (bytes rest rest' front : List ℕ) (before between after : Kept) (packet : Seen)
+pub takes_next : (programs : Programs) (wanted : Wanted) (h : Header) (bytes rest rest' front : List ℕ) (before between after : KeptBytes) (packet : Seen)
     → TakesRecords programs wanted h bytes rest before between → rest ≡ front ++ rest' → IsRecord h.big front (seen_packet packet) → KeepsOne programs wanted (savefile_link h) packet front between after
     → TakesRecords programs wanted h bytes rest' before after
 takes_next programs wanted h bytes rest rest' front before between after packet so parts is one = record {
@@ -59,13 +59,13 @@ takes_next programs wanted h bytes rest rest' front before between after packet 
 }
 
 -- a part that has become a record
-pub takes_whole : (programs : Programs) (wanted : Wanted) (h : Header) (part front : List ℕ) (before after : Kept) (packet : Seen) → front ≡ part → IsRecord h.big front (seen_packet packet) → KeepsOne programs wanted (savefile_link h) packet part before after
+pub takes_whole : (programs : Programs) (wanted : Wanted) (h : Header) (part front : List ℕ) (before after : KeptBytes) (packet : Seen) → front ≡ part → IsRecord h.big front (seen_packet packet) → KeepsOne programs wanted (savefile_link h) packet part before after
     → TakesRecords programs wanted h part [] before after
 takes_whole programs wanted h part front before after packet all is one =
     takes_next programs wanted h part part [] part before before after packet (takes_none programs wanted h part before) (sym (append-nil part)) (rw all at is) one
 
 -- records of a part, and then of what is left of it and a piece
-pub takes_then : {T E : Type 0} (r : Result T E) (programs : Programs) (wanted : Wanted) (h : Header) (part piece mid rest bytes left : List ℕ) (before between after : Kept) → part ++ piece ≡ bytes ++ rest → TakesRecords programs wanted h bytes mid before between
+pub takes_then : {T E : Type 0} (r : Result T E) (programs : Programs) (wanted : Wanted) (h : Header) (part piece mid rest bytes left : List ℕ) (before between after : KeptBytes) → part ++ piece ≡ bytes ++ rest → TakesRecords programs wanted h bytes mid before between
     → OnOk r (TakesRecords programs wanted h (mid ++ rest) left between after) → OnOk r (TakesRecords programs wanted h (part ++ piece) left before after)
 takes_then (Err e) programs wanted h part piece mid rest bytes left before between after moved first second = tt
 takes_then (Ok done) programs wanted h part piece mid rest bytes left before between after moved first second = record {

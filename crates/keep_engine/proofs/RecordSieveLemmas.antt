@@ -11,7 +11,7 @@ use Rattle.pcap_reader.specs.Savefile.{EndsWith, IsHeader, IsPart, IsRecord}
 use Rattle.console.specs.declared.filter.CodeFault.{CodeFault}
 use Rattle.console.specs.Programs.{Programs}
 use Rattle.console.proofs.RunningLemmas.{AllZip-append}
-use Rattle.keep_engine.specs.declared.choice.Kept.{Kept}
+use Rattle.keep_engine.specs.declared.choice.KeptBytes.{KeptBytes}
 use Rattle.keep_engine.specs.declared.choice.Wanted.{Wanted}
 use Rattle.keep_engine.specs.declared.record_sieve.RecordSieve.{RecordSieve}
 use Rattle.keep_engine.specs.Keeping.{Decides, KeepsSavefile, Part, parts_of}
@@ -21,7 +21,7 @@ use Rattle.keep_engine.proofs.RecordLemmas.{parts-append}
 use Rattle.capture_reader.specs.Entries.{savefile_link}
 
 -- of a part that has grown more records were taken
-sifted_next : (programs : Programs) (wanted : Wanted) (taken piece : List ℕ) (h : Header) (part part' : List ℕ) (kept : List Part) (before after : Kept)
+sifted_next : (programs : Programs) (wanted : Wanted) (taken piece : List ℕ) (h : Header) (part part' : List ℕ) (kept : List Part) (before after : KeptBytes)
     → Sifted programs wanted taken h part kept → (so : TakesRecords programs wanted h (part ++ piece) part' before after) → Sifted programs wanted (taken ++ piece) h part' (kept ++ parts_of so.records so.answers)
 sifted_next programs wanted taken piece h part part' kept before after was so = record {
   head = was.head;
@@ -38,7 +38,7 @@ sifted_next programs wanted taken piece h part part' kept before after was so = 
       ∙ ap (λ t. Ok was.head ∷ t) (sym (parts-append programs wanted h was.records so.records was.packets was.answers so.answers was.each was.decided));
 }
 
-pub piece_taken : (programs : Programs) (wanted : Wanted) (piece : List ℕ) (old new : RecordSieve) (h : Header) (before after : Kept) → old.header ≡ Ok h → new.header ≡ old.header
+pub piece_taken : (programs : Programs) (wanted : Wanted) (piece : List ℕ) (old new : RecordSieve) (h : Header) (before after : KeptBytes) → old.header ≡ Ok h → new.header ≡ old.header
     → TakesRecords programs wanted h (old.part.items ++ piece) new.part.items before after → IsLeft h.big new.long new.part.items → Sifts (HasSiftedRecords programs wanted) piece old new before after
 piece_taken programs wanted piece old new h before after is same so left = record {
   more = parts_of so.records so.answers;
@@ -47,7 +47,7 @@ piece_taken programs wanted piece old new h before after is same so left = recor
 }
 
 -- the header and the first records
-first_sifted : (programs : Programs) (wanted : Wanted) (bytes : List ℕ) (before after : Kept) (header : Result Header CaptureFault) (long : Bool) (part : List ℕ) → OpensAt programs wanted bytes header long part before after
+first_sifted : (programs : Programs) (wanted : Wanted) (bytes : List ℕ) (before after : KeptBytes) (header : Result Header CaptureFault) (long : Bool) (part : List ℕ) → OpensAt programs wanted bytes header long part before after
     → (more : List Part) × Appends more before after × SiftedAt programs wanted bytes header long part more
 first_sifted programs wanted bytes before after (Err fault) long part opens = ([], rw opens.2 (appends_none before), (opens.0, opens.1, refl))
 first_sifted programs wanted bytes before after (Ok h) long part (head, rest, parts, is, between, first, so, left) = (
@@ -69,7 +69,7 @@ first_sifted programs wanted bytes before after (Ok h) long part (head, rest, pa
   ),
 )
 
-pub piece_opened : (programs : Programs) (wanted : Wanted) (piece : List ℕ) (old new : RecordSieve) (f : CaptureFault) (before after : Kept) → old.header ≡ Err f
+pub piece_opened : (programs : Programs) (wanted : Wanted) (piece : List ℕ) (old new : RecordSieve) (f : CaptureFault) (before after : KeptBytes) → old.header ≡ Err f
     → OpensAt programs wanted (old.part.items ++ piece) new.header new.long new.part.items before after → Sifts (HasSiftedRecords programs wanted) piece old new before after
 piece_opened programs wanted piece old new f before after is opens =
     let first = first_sifted programs wanted (old.part.items ++ piece) before after new.header new.long new.part.items opens in
@@ -120,13 +120,13 @@ ends_whole programs wanted taken header h long part kept is none has =
     let was = rw is at has in ends_at programs wanted taken h part kept None was.0 none
 
 -- the header was whole
-pub opened : (programs : Programs) (wanted : Wanted) (bytes records : List ℕ) (front : ℕ) (h : Header) (long : Bool) (part : List ℕ) (before between after : Kept)
+pub opened : (programs : Programs) (wanted : Wanted) (bytes records : List ℕ) (front : ℕ) (h : Header) (long : Bool) (part : List ℕ) (before between after : KeptBytes)
     → IsHeader (take front bytes) h → records ≡ drop front bytes → Appends (Ok (take front bytes) ∷ []) before between → TakesRecords programs wanted h records part between after → IsLeft h.big long part
     → OpensAt programs wanted bytes (Ok h) long part before after
 opened programs wanted bytes records front h long part before between after is rest pushed so left =
     (take front bytes, drop front bytes, sym (take-append-drop front bytes), is, between, pushed, rw rest at so, left)
 
-pub on_opened : {E : Type 0} (r : Result (Unit {0}) E) (programs : Programs) (wanted : Wanted) (piece grown : List ℕ) (old new : RecordSieve) (f : CaptureFault) (before after : Kept) → old.header ≡ Err f → grown ≡ old.part.items ++ piece
+pub on_opened : {E : Type 0} (r : Result (Unit {0}) E) (programs : Programs) (wanted : Wanted) (piece grown : List ℕ) (old new : RecordSieve) (f : CaptureFault) (before after : KeptBytes) → old.header ≡ Err f → grown ≡ old.part.items ++ piece
     → OnOk r (OpensAt programs wanted grown new.header new.long new.part.items before after) → OnOk r (Sifts (HasSiftedRecords programs wanted) piece old new before after)
 on_opened (Ok done) programs wanted piece grown old new f before after is more opens = piece_opened programs wanted piece old new f before after is (rw more at opens)
 on_opened (Err e) programs wanted piece grown old new f before after is more opens = tt

@@ -6,7 +6,7 @@ use Rattle.pcap_reader.specs.declared.capture.CaptureFault.{CaptureFault as Save
 use Rattle.pcap_reader.specs.declared.capture.CaptureFault.TheVariants.{TruncatedHeader}
 use Rattle.pcapng_reader.specs.declared.fault.CaptureFault.{CaptureFault as PcapngFault}
 use Rattle.console.specs.Programs.{Programs}
-use Rattle.keep_engine.specs.declared.choice.Kept.{Kept}
+use Rattle.keep_engine.specs.declared.choice.KeptBytes.{KeptBytes}
 use Rattle.keep_engine.specs.declared.choice.Wanted.{Wanted}
 use Rattle.keep_engine.specs.declared.block_sieve.BlockSieve.{BlockSieve}
 use Rattle.keep_engine.specs.declared.record_sieve.RecordSieve.{RecordSieve}
@@ -31,7 +31,7 @@ too_few bytes few = let some : nat_lt (length bytes) 4 ≡ true = grind arith in
 
 -- A piece
 
-pub savefile_sifts : {E : Type 0} (r : Result (Unit {0}) E) (programs : Programs) (wanted : Wanted) (piece : List ℕ) (old new : Sieve) (from to : RecordSieve) (before after : Kept) → old.format ≡ Savefile from → new.format ≡ Savefile to
+pub savefile_sifts : {E : Type 0} (r : Result (Unit {0}) E) (programs : Programs) (wanted : Wanted) (piece : List ℕ) (old new : Sieve) (from to : RecordSieve) (before after : KeptBytes) → old.format ≡ Savefile from → new.format ≡ Savefile to
     → OnOk r (Sifts (HasSiftedRecords programs wanted) piece from to before after) → OnOk r (Sifts (HasSifted programs wanted) piece old new before after)
 savefile_sifts (Err e) programs wanted piece old new from to before after is now_is sifts = tt
 savefile_sifts (Ok done) programs wanted piece old new from to before after is now_is sifts = record {
@@ -45,7 +45,7 @@ savefile_sifts (Ok done) programs wanted piece old new from to before after is n
       rw now_is now;
 }
 
-pub blocks_sift : {E : Type 0} (r : Result (Unit {0}) E) (programs : Programs) (wanted : Wanted) (piece : List ℕ) (old new : Sieve) (from to : BlockSieve) (before after : Kept) → old.format ≡ Pcapng from → new.format ≡ Pcapng to
+pub blocks_sift : {E : Type 0} (r : Result (Unit {0}) E) (programs : Programs) (wanted : Wanted) (piece : List ℕ) (old new : Sieve) (from to : BlockSieve) (before after : KeptBytes) → old.format ≡ Pcapng from → new.format ≡ Pcapng to
     → OnOk r (Sifts (HasSiftedBlocks programs wanted) piece from to before after) → OnOk r (Sifts (HasSifted programs wanted) piece old new before after)
 blocks_sift (Err e) programs wanted piece old new from to before after is now_is sifts = tt
 blocks_sift (Ok done) programs wanted piece old new from to before after is now_is sifts = record {
@@ -58,7 +58,7 @@ blocks_sift (Ok done) programs wanted piece old new from to before after is now_
       rw now_is now;
 }
 
-pub unknown_sifts : {E : Type 0} (r : Result (Unit {0}) E) (programs : Programs) (wanted : Wanted) (piece : List ℕ) (old new : Sieve) (before after : Kept) → old.format ≡ Unknown
+pub unknown_sifts : {E : Type 0} (r : Result (Unit {0}) E) (programs : Programs) (wanted : Wanted) (piece : List ℕ) (old new : Sieve) (before after : KeptBytes) → old.format ≡ Unknown
     → OnOk r (Begins programs wanted (old.front.items ++ piece) new before after) → OnOk r (Sifts (HasSifted programs wanted) piece old new before after)
 unknown_sifts (Err e) programs wanted piece old new before after is begins = tt
 unknown_sifts (Ok done) programs wanted piece old new before after is (more, pushed, has) = record {

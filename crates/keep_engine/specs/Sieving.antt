@@ -21,15 +21,15 @@ use Rattle.console.specs.CodeWords.{code_fault_line}
 use Rattle.console.specs.Expressions.{explanation}
 use Rattle.console.specs.Programs.{Programs}
 use Rattle.keep_engine.specs.declared.choice.Wanted.{Wanted}
-use Rattle.keep_engine.specs.declared.choice.Kept.{Kept}
+use Rattle.keep_engine.specs.declared.choice.KeptBytes.{KeptBytes}
 use Rattle.keep_engine.specs.declared.sifting.TakenRecords.{TakenRecords}
 use Rattle.keep_engine.specs.declared.record_sieve.RecordSieve.{RecordSieve}
 use Rattle.keep_engine.specs.declared.block_sieve.BlockSieve.{BlockSieve}
 use Rattle.keep_engine.specs.declared.sieve.Format.{Format}
 use Rattle.keep_engine.specs.declared.sieve.Format.TheVariants.{Unknown, Savefile, Pcapng}
 use Rattle.keep_engine.specs.declared.sieve.Sieve.{Sieve}
-use Rattle.keep_engine.specs.declared.keeping.Ending.{Ending}
-use Rattle.keep_engine.specs.declared.keeping.Ending.TheVariants.{Capture, Code}
+use Rattle.keep_engine.specs.declared.keeping.CopyEnd.{CopyEnd}
+use Rattle.keep_engine.specs.declared.keeping.CopyEnd.TheVariants.{Capture, Code}
 use Rattle.keep_engine.specs.Keeping.{Decides, Keeps, KeepsOfFront, Leaves, Part, Says, part_of, parts_of, stop_of, text_of}
 use Rattle.capture_reader.specs.Entries.{savefile_link}
 
@@ -42,16 +42,16 @@ abbrev pub stop_after : Option CodeFault → List Part → Option CodeFault
 stop_after None kept = stop_of kept
 stop_after (Some fault) kept = Some fault
 
-abbrev pub Appends : List Part → Kept → Kept → Type 0
+abbrev pub Appends : List Part → KeptBytes → KeptBytes → Type 0
 Appends kept before after = (after.bytes.items ≡ text_after before.stop kept before.bytes.items) × (after.stop ≡ stop_after before.stop kept)
 
 -- what is kept of the bytes that hold one packet was appended
-abbrev pub KeepsOne : Programs → Wanted → ℕ → Seen → List ℕ → Kept → Kept → Type 0
+abbrev pub KeepsOne : Programs → Wanted → ℕ → Seen → List ℕ → KeptBytes → KeptBytes → Type 0
 KeepsOne programs wanted link packet bytes before after =
     (answer : Result Bool CodeFault) × Decides programs wanted link (seen_packet packet) answer × Appends (part_of bytes answer ∷ []) before after
 
 -- a sieve took some bytes more, and appended what is kept of them
-pub record Sifts {S : Type 0} (Has : List ℕ → S → List Part → Type 0) (piece : List ℕ) (old new : S) (before after : Kept) : Type 0 where
+pub record Sifts {S : Type 0} (Has : List ℕ → S → List Part → Type 0) (piece : List ℕ) (old new : S) (before after : KeptBytes) : Type 0 where
   pub more : List Part
   pub pushed : Appends more before after
   pub goes : (taken : List ℕ) (kept : List Part) → Has taken old kept → length (taken ++ piece) < 2 ^ 64 → Has (taken ++ piece) new (kept ++ more)
@@ -59,7 +59,7 @@ pub record Sifts {S : Type 0} (Has : List ℕ → S → List Part → Type 0) (p
 -- Records of a savefile
 
 -- whole records were taken off the front of some bytes, and those that are kept were appended
-pub record TakesRecords (programs : Programs) (wanted : Wanted) (h : Header) (bytes rest : List ℕ) (before after : Kept) : Type 0 where
+pub record TakesRecords (programs : Programs) (wanted : Wanted) (h : Header) (bytes rest : List ℕ) (before after : KeptBytes) : Type 0 where
   pub records : List (List ℕ)
   pub packets : List CapturedPacket
   pub answers : List (Result Bool CodeFault)
@@ -74,7 +74,7 @@ IsLeft big true rest = IsLong big rest
 IsLeft big false rest = (rest ≡ []) ⊎ IsPart big rest
 
 -- the records of so many bytes were taken, and no more are whole
-abbrev pub TakesTo : Programs → Wanted → Header → List ℕ → Kept → Kept → TakenRecords → Type 0
+abbrev pub TakesTo : Programs → Wanted → Header → List ℕ → KeptBytes → KeptBytes → TakenRecords → Type 0
 TakesTo programs wanted h bytes before after taken = (taken.count ≤ length bytes)
     × TakesRecords programs wanted h bytes (drop taken.count bytes) before after × IsLeft h.big taken.long (drop taken.count bytes)
 
@@ -100,12 +100,12 @@ abbrev pub HasSiftedRecords : Programs → Wanted → List ℕ → RecordSieve �
 HasSiftedRecords programs wanted taken sieve kept = SiftedAt programs wanted taken sieve.header sieve.long sieve.part.items kept
 
 -- bytes have no header yet, or none; or they have one, which was appended, and the records after it were taken
-abbrev pub OpensAt : Programs → Wanted → List ℕ → Result Header CaptureFault → Bool → List ℕ → Kept → Kept → Type 0
+abbrev pub OpensAt : Programs → Wanted → List ℕ → Result Header CaptureFault → Bool → List ℕ → KeptBytes → KeptBytes → Type 0
 OpensAt programs wanted bytes (Err fault) long part before after = (part ≡ bytes) × HasNoHeader bytes fault × (after ≡ before)
 OpensAt programs wanted bytes (Ok h) long part before after = (head : List ℕ) × (rest : List ℕ) × (bytes ≡ head ++ rest) × IsHeader head h
-    × (between : Kept) × Appends (Ok head ∷ []) before between × TakesRecords programs wanted h rest part between after × IsLeft h.big long part
+    × (between : KeptBytes) × Appends (Ok head ∷ []) before between × TakesRecords programs wanted h rest part between after × IsLeft h.big long part
 
-abbrev pub Opens : Programs → Wanted → List ℕ → RecordSieve → Kept → Kept → Type 0
+abbrev pub Opens : Programs → Wanted → List ℕ → RecordSieve → KeptBytes → KeptBytes → Type 0
 Opens programs wanted bytes sieve before after = OpensAt programs wanted bytes sieve.header sieve.long sieve.part.items before after
 
 -- a fault stands in what was taken, whatever follows
@@ -119,22 +119,22 @@ HasStoppedRecords sieve = StoppedAt sieve.header sieve.long
 -- Blocks of a capture in pcapng
 
 -- what is kept of a block was appended
-abbrev pub KeepsBlock : Programs → Wanted → WholeBlock → Kept → Kept → Type 0
+abbrev pub KeepsBlock : Programs → Wanted → WholeBlock → KeptBytes → KeptBytes → Type 0
 KeepsBlock programs wanted block before after = (part : Part) × Leaves programs wanted block part × Appends (part ∷ []) before after
 
 -- the same for a packet block that was skimmed
-abbrev pub KeepsSkimmed : Programs → Wanted → Skimmed → Kept → Kept → Type 0
+abbrev pub KeepsSkimmed : Programs → Wanted → Skimmed → KeptBytes → KeptBytes → Type 0
 KeepsSkimmed programs wanted skimmed before after = (answer : Result Bool CodeFault)
     × Decides programs wanted skimmed.packet.link (record { bytes = skimmed.bytes.now; original = skimmed.packet.original }) answer
     × Appends (part_of skimmed.block.now answer ∷ []) before after
 
 -- the same for a block that a feed holds, if it holds one
-abbrev pub KeepsHeld : Programs → Wanted → Option WholeBlock → Kept → Kept → Type 0
+abbrev pub KeepsHeld : Programs → Wanted → Option WholeBlock → KeptBytes → KeptBytes → Type 0
 KeepsHeld programs wanted (Some block) before after = KeepsBlock programs wanted block before after
 KeepsHeld programs wanted None before after = after ≡ before
 
 -- what is kept of the block that a step made whole was appended, if it did
-abbrev pub KeepsStep : Programs → Wanted → BlockFeed → FeedStep → Kept → Kept → Type 0
+abbrev pub KeepsStep : Programs → Wanted → BlockFeed → FeedStep → KeptBytes → KeptBytes → Type 0
 KeepsStep programs wanted feed (Block block) before after = KeepsBlock programs wanted (seen_block block) before after
 KeepsStep programs wanted feed Held before after = KeepsHeld programs wanted (held_block feed) before after
 KeepsStep programs wanted feed _ before after = after ≡ before
@@ -169,22 +169,22 @@ abbrev pub HasStopped : Sieve → Type 0
 HasStopped sieve = StoppedBy sieve.format
 
 -- the first bytes, of which this is kept
-abbrev pub Begins : Programs → Wanted → List ℕ → Sieve → Kept → Kept → Type 0
+abbrev pub Begins : Programs → Wanted → List ℕ → Sieve → KeptBytes → KeptBytes → Type 0
 Begins programs wanted bytes sieve before after = (more : List Part) × Appends more before after × (length bytes < 2 ^ 64 → HasSifted programs wanted bytes sieve more)
 
 -- How a copy ends
 
 -- at the end of the capture or at a fault of it, with all that is kept; or at a packet for which CODE has no program
-abbrev pub EndsKept : Programs → Wanted → List ℕ → Ending → List ℕ → Type 0
+abbrev pub EndsKept : Programs → Wanted → List ℕ → CopyEnd → List ℕ → Type 0
 EndsKept programs wanted input (Capture fault) text = (kept : List Part) × (text ≡ text_of kept) × Keeps programs wanted input fault kept × (stop_of kept ≡ None)
 EndsKept programs wanted input (Code stop) text = (kept : List Part) × (text ≡ text_of kept) × KeepsOfFront programs wanted input kept × (stop_of kept ≡ Some stop)
 
 -- before the input's end
-abbrev pub IsStopped : Ending → Type 0
+abbrev pub IsStopped : CopyEnd → Type 0
 IsStopped (Capture fault) = IsSome fault
 IsStopped (Code stop) = ⊤
 
 -- the status and the lines that go with it
-abbrev pub SaysEnding : List ℕ → Ending → ℕ → List ℕ → Type 0
+abbrev pub SaysEnding : List ℕ → CopyEnd → ℕ → List ℕ → Type 0
 SaysEnding code (Capture fault) status lines = Says fault status lines
 SaysEnding code (Code stop) status lines = (status ≡ 1) × (lines ≡ code_fault_line stop ++ explanation code stop)

@@ -7,7 +7,7 @@ ghost use Rattle.console.specs.Programs.{Programs, programs_of};
 ghost use Rattle.keep_engine.specs.Keeping.{KeepsBlocks, Part};
 ghost use Rattle.keep_engine.specs.Sieving.{HasSiftedBlocks, KeepsBlock, KeepsSkimmed, KeepsStep, Sifts};
 
-use crate::choice::{Kept, Wanted, keep_one};
+use crate::choice::{KeptBytes, Wanted, keep_one};
 use console::{Filter, LinkTypes};
 use pcap_reader::Seen;
 use pcapng_reader::{Block, BlockFeed, CaptureFault, Content, FeedStep, Skimmed};
@@ -42,7 +42,7 @@ impl BlockSieve {
         filter: &Filter,
         wanted: Wanted,
         piece: &[u8],
-        kept: &mut Kept,
+        kept: &mut KeptBytes,
     ) -> Result<(), AllocError>
         ensures { OnOk result (Sifts (HasSiftedBlocks (programs_of filter.now) wanted) piece.now self.old self.new kept.old kept.new) }
     {
@@ -128,7 +128,7 @@ fn keep_skimmed(
     filter: &Filter,
     wanted: Wanted,
     skimmed: Skimmed,
-    kept: &mut Kept,
+    kept: &mut KeptBytes,
 ) -> Result<(), AllocError>
     ensures { OnOk result (KeepsSkimmed (programs_of filter.now) wanted skimmed.entry kept.old kept.new) }
 {
@@ -147,7 +147,7 @@ fn keep_step(
     wanted: Wanted,
     feed: &BlockFeed,
     step: FeedStep,
-    kept: &mut Kept,
+    kept: &mut KeptBytes,
 ) -> Result<(), AllocError>
     ensures { OnOk result (KeepsStep (programs_of filter.now) wanted feed.now step.entry kept.old kept.new) }
 {
@@ -166,7 +166,7 @@ fn keep_block(
     filter: &Filter,
     wanted: Wanted,
     block: Block,
-    kept: &mut Kept,
+    kept: &mut KeptBytes,
 ) -> Result<(), AllocError>
     ensures { OnOk result (KeepsBlock (programs_of filter.now) wanted (seen_block block.entry) kept.old kept.new) }
 {

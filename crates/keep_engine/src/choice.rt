@@ -22,19 +22,19 @@ pub struct Wanted {
 
 /// What is kept, up to the first packet that is wanted and for whose link type CODE has no program.
 #[derive(Drop)]
-pub struct Kept {
+pub struct KeptBytes {
     pub bytes: Vec<u8>,
     /// Why CODE has none, once there was such a packet. Nothing is kept after it.
     pub stop: Option<CodeFault>,
 }
 
-impl Kept {
+impl KeptBytes {
     /// Nothing yet. Takes no memory.
-    pub fn new(alloc: Global) -> Kept
+    pub fn new(alloc: Global) -> KeptBytes
         ensures bytes { result.bytes.items ≡ [] }
         ensures stop { result.stop ≡ None }
     {
-        Kept {
+        KeptBytes {
             bytes: Vec::new(alloc),
             stop: None,
         }
@@ -70,7 +70,7 @@ pub fn keep_one(
     link: u32,
     packet: Seen,
     bytes: &[u8],
-    kept: &mut Kept,
+    kept: &mut KeptBytes,
 ) -> Result<(), AllocError>
     ensures { OnOk result (KeepsOne (programs_of filter.now) wanted link packet.entry bytes.now kept.old kept.new) }
 {

@@ -10,7 +10,7 @@ ghost use Rattle.engine_io.specs.Reading.{IsEngineFault};
 ghost use Rattle.keep_engine.specs.Keeping.{KeepsFront, KeepsGoodCode, KeepsPart, Says};
 ghost use Rattle.keep_engine.specs.Sieving.{EndsKept, IsStopped, SaysEnding};
 
-use crate::choice::{Kept, Wanted};
+use crate::choice::{KeptBytes, Wanted};
 use crate::sieve::Sieve;
 use capture_reader::ReadFault;
 use console::{
@@ -89,7 +89,7 @@ pub fn run_keep<R: Read, W: Write>(
 
 /// How a copy ended.
 #[derive(Clone, Copy, Debug)]
-pub enum Ending {
+pub enum CopyEnd {
     /// At the capture's end, or at this fault of it.
     Capture(Option<ReadFault>),
     /// At a packet for whose link type CODE has no program.
@@ -100,14 +100,14 @@ pub enum Ending {
 fn say(
     alloc: Global,
     code: &[u8],
-    ending: Ending,
+    ending: CopyEnd,
     complaint: &mut String,
 ) -> Result<u8, AllocError>
     ensures { IfOk result (λ status. (lines : List ℕ) × (string_bytes complaint.new ≡ string_bytes complaint.old ++ lines) × SaysEnding code.now ending status lines) }
 {
     match ending {
-        Ending::Capture(fault) => say_fault(fault, complaint),
-        Ending::Code(fault) => {
+        CopyEnd::Capture(fault) => say_fault(fault, complaint),
+        CopyEnd::Code(fault) => {
             push_code_fault(complaint, fault)?;
             push_explanation(alloc, complaint, code, fault)?;
             Ok(1)
@@ -138,7 +138,7 @@ fn copy<R: Read, W: Write>(
     links: &mut LinkTypes,
     reader: &mut Source<R>,
     writer: &mut Sink<W>,
-) -> Result<Ending, EngineFault>
+) -> Result<CopyEnd, EngineFault>
     requires fresh { IsFresh reader.old STREAM_READS }
     requires good { writer.old.failed ≡ false }
     ensures kept { IfOk result (λ ending. (input : List ℕ) × Gets R.remaining reader.old reader.new input
@@ -151,22 +151,22 @@ fn copy<R: Read, W: Write>(
     ensures cause { IfErr result (EndsEarly reader.new writer.new) }
 {
     let mut sieve = Sieve::new(alloc);
-    let mut kept = Kept::new(alloc);
+    let mut kept = KeptBytes::new(alloc);
     let mut block = [0u8; BLOCK];
     for _turn in 0..STREAM_READS {
         let buffer = &mut block[..room(reader.taken())];
         match reader.read(buffer) {
-            Got::End => return Ok(Ending::Capture(sieve.ending(reader.taken()))),
+            Got::End => return Ok(CopyEnd::Capture(sieve.ending(reader.taken()))),
             Got::Bytes(count) => {
                 sieve.piece(filter, wanted, &buffer[..count], &mut kept)?;
                 *links = sieve.links();
                 write_bytes(writer, kept.bytes.as_slice())?;
                 kept.bytes.clear();
                 if let Some(fault) = kept.stop {
-                    return Ok(Ending::Code(fault));
+                    return Ok(CopyEnd::Code(fault));
                 }
                 if sieve.has_stopped() {
-                    return Ok(Ending::Capture(sieve.ending(reader.taken())));
+                    return Ok(CopyEnd::Capture(sieve.ending(reader.taken())));
                 }
             }
             Got::Again => {}

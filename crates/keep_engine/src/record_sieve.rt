@@ -6,7 +6,7 @@ ghost use Rattle.console.specs.Programs.{Programs, programs_of};
 ghost use Rattle.keep_engine.specs.Keeping.{KeepsSavefile, Part};
 ghost use Rattle.keep_engine.specs.Sieving.{HasSiftedRecords, HasStoppedRecords, Opens, Sifts};
 
-use crate::choice::{Kept, Wanted};
+use crate::choice::{KeptBytes, Wanted};
 use crate::sifting::{take_piece, take_records};
 use console::{Filter, LinkTypes};
 use capture_reader::savefile_link;
@@ -57,7 +57,7 @@ impl RecordSieve {
         filter: &Filter,
         wanted: Wanted,
         piece: &[u8],
-        kept: &mut Kept,
+        kept: &mut KeptBytes,
     ) -> Result<(), AllocError>
         ensures { OnOk result (Sifts (HasSiftedRecords (programs_of filter.now) wanted) piece.now self.old self.new kept.old kept.new) }
     {
@@ -78,7 +78,7 @@ impl RecordSieve {
         &mut self,
         filter: &Filter,
         wanted: Wanted,
-        kept: &mut Kept,
+        kept: &mut KeptBytes,
     ) -> Result<(), AllocError>
         ensures { OnOk result (Opens (programs_of filter.now) wanted self.old.part.items self.new kept.old kept.new) }
     {

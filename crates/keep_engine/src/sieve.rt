@@ -7,7 +7,7 @@ ghost use Rattle.keep_engine.specs.Keeping.{Keeps, Part};
 ghost use Rattle.keep_engine.specs.Sieving.{Begins, HasSifted, HasStopped, Sifts};
 
 use crate::block_sieve::BlockSieve;
-use crate::choice::{Kept, Wanted};
+use crate::choice::{KeptBytes, Wanted};
 use crate::record_sieve::RecordSieve;
 use capture_reader::ReadFault;
 use console::{Filter, LinkTypes};
@@ -54,7 +54,7 @@ impl Sieve {
         filter: &Filter,
         wanted: Wanted,
         piece: &[u8],
-        kept: &mut Kept,
+        kept: &mut KeptBytes,
     ) -> Result<(), AllocError>
         ensures { OnOk result (Sifts (HasSifted (programs_of filter.now) wanted) piece.now self.old self.new kept.old kept.new) }
     {
@@ -71,7 +71,7 @@ impl Sieve {
         filter: &Filter,
         wanted: Wanted,
         piece: &[u8],
-        kept: &mut Kept,
+        kept: &mut KeptBytes,
     ) -> Result<(), AllocError>
         requires { self.old.format ≡ Format.Unknown }
         ensures { OnOk result (Begins (programs_of filter.now) wanted (self.old.front.items ++ piece.now) self.new kept.old kept.new) }

@@ -4,7 +4,7 @@ ghost use Rattle.std.specs.Prelude.{◌≡◌, ◌++◌, [], IfOk, OnOk};
 ghost use Rattle.console.specs.Programs.{programs_of};
 ghost use Rattle.keep_engine.specs.Sieving.{IsLeft, TakesRecords, TakesTo};
 
-use crate::choice::{Kept, Wanted, keep_one};
+use crate::choice::{KeptBytes, Wanted, keep_one};
 use console::Filter;
 use capture_reader::savefile_link;
 use pcap_reader::Header;
@@ -30,7 +30,7 @@ pub fn take_piece(
     header: Header,
     part: &mut Vec<u8>,
     piece: &[u8],
-    kept: &mut Kept,
+    kept: &mut KeptBytes,
 ) -> Result<bool, AllocError>
     ensures takes { OnOk result (TakesRecords (programs_of filter.now) wanted header (part.old.items ++ piece.now) part.new.items kept.old kept.new) }
     ensures left { IfOk result (λ long. IsLeft header.big long part.new.items) }
@@ -70,7 +70,7 @@ fn take_whole(
     wanted: Wanted,
     header: Header,
     part: &mut Vec<u8>,
-    kept: &mut Kept,
+    kept: &mut KeptBytes,
 ) -> Result<(), AllocError>
     ensures { OnOk result (TakesRecords (programs_of filter.now) wanted header part.old.items part.new.items kept.old kept.new) }
 {
@@ -98,7 +98,7 @@ fn take_in_place(
     header: Header,
     part: &mut Vec<u8>,
     piece: &[u8],
-    kept: &mut Kept,
+    kept: &mut KeptBytes,
 ) -> Result<bool, AllocError>
     requires { part.old.items ≡ [] }
     ensures takes { OnOk result (TakesRecords (programs_of filter.now) wanted header piece.now part.new.items kept.old kept.new) }
@@ -116,7 +116,7 @@ pub fn take_records(
     wanted: Wanted,
     header: Header,
     part: &mut Vec<u8>,
-    kept: &mut Kept,
+    kept: &mut KeptBytes,
 ) -> Result<bool, AllocError>
     ensures takes { OnOk result (TakesRecords (programs_of filter.now) wanted header part.old.items part.new.items kept.old kept.new) }
     ensures left { IfOk result (λ long. IsLeft header.big long part.new.items) }
@@ -135,7 +135,7 @@ fn sift(
     wanted: Wanted,
     header: Header,
     bytes: &[u8],
-    kept: &mut Kept,
+    kept: &mut KeptBytes,
 ) -> Result<TakenRecords, AllocError>
     ensures { IfOk result (TakesTo (programs_of filter.now) wanted header bytes.now kept.old kept.new) }
 {

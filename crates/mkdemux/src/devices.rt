@@ -142,12 +142,16 @@ impl Read for FileInput {
     }
 }
 
-/// Standard output: whether nobody reads it any more, whether anything was written, and what its lines begin with.
+/// How many bytes the header of a savefile has.
+const SAVEFILE_HEADER: u64 = 24;
+
+/// Standard output: whether nobody reads it any more, how much was written, and what its lines begin with.
 #[derive(Drop)]
 pub struct Output<'a> {
     inner: Stdout,
     closed: bool,
-    used: bool,
+    /// How many bytes were written, up to 2^64 - 1.
+    written: u64,
     /// The name that each line begins with, if any does.
     name: Option<&'a str>,
     /// Whether what comes next begins a line.
@@ -163,7 +167,7 @@ impl<'a> Output<'a> {
         Output {
             inner,
             closed: false,
-            used: false,
+            written: 0,
             name,
             begins: true,
             accepted: false,
@@ -173,7 +177,12 @@ impl<'a> Output<'a> {
 
     /// Whether anything was written.
     pub fn is_used(&self) -> bool {
-        self.used
+        self.written > 0
+    }
+
+    /// Whether just the header of a savefile was written.
+    pub fn is_header(&self) -> bool {
+        self.written == SAVEFILE_HEADER
     }
 
     /// Whether a write failed since nobody reads the output any more.
@@ -213,7 +222,7 @@ impl<'a> Output<'a> {
 
     /// Notes that these bytes were written.
     fn wrote(&mut self, bytes: &[u8]) {
-        self.used = true;
+        self.written = self.written.saturating_add(bytes.len() as u64);
         self.note(bytes);
     }
 

@@ -179,11 +179,11 @@ fn answer_input<T: Threads + Wait + Clock + Sync>(
     }
     let files = match open_files(rt, invocation.request.captures()) {
         Ok(files) => files,
-        Err(fault) => return not_opened(rt, &invocation.request, fault),
+        Err(fault) => return not_opened(rt, code_of(&invocation.request), fault),
     };
     let mut input = match open_input(rt, &invocation.request, name) {
         Ok(input) => input,
-        Err(fault) => return not_opened(rt, &invocation.request, fault),
+        Err(fault) => return not_opened(rt, code_of(&invocation.request), fault),
     };
     let capture = name.is_some() && !invocation.files.digits && {
         input.look();
@@ -250,7 +250,7 @@ fn code_in_file(rt: &HostRuntime, request: &Request) -> Result<String, u8> {
     let name = code_of(request).unwrap_or("");
     let mut file = match open_file(rt, name) {
         Ok(file) => file,
-        Err(fault) => return Err(not_opened(rt, request, fault)),
+        Err(fault) => return Err(not_opened(rt, None, fault)),
     };
     let mut text = String::new(rt.alloc());
     match file.read_to_string(&mut text) {
@@ -323,13 +323,15 @@ fn answer_with<T: Threads + Wait + Clock + Sync>(
         &mut links,
     ) {
         Ok(status) => {
-            warn(rt, choices.link, links);
+            if takes_decimal(request) {
+                warn(rt, choices.link, links);
+            }
             complain(rt, complaint.as_str());
             if !sink.inner().is_used() {
                 remind(rt, request);
             }
             advise(rt, request, &source, source.left() == reads, status);
-            if choices.link.is_none() && !sink.inner().has_accepted() {
+            if choices.link.is_none() && is_nothing(request, sink.inner()) {
                 name_link(rt, request, links, status);
             }
             status
@@ -424,20 +426,45 @@ fn advise(
     is_unread: bool,
     status: u8,
 ) {
-    if is_unread && status == REFUSED {
-        if let Some(code) = code_of(request) {
-            if let Some(hint) = code_hint(code) {
-                let _ = eprintln!(rt; "mkdemux: {hint}");
-            } else if File::open(rt, code).is_ok() {
-                let _ = eprintln!(rt;
-                    "mkdemux: {code:?} is the name of a file: CODE comes before FILE, and --code reads it from a file"
-                );
-            }
-            return;
-        }
+    if is_unread && status == REFUSED && advise_code(rt, request) {
+        return;
     }
     if let Some(hint) = hint(request, source, is_unread, status == REFUSED) {
         let _ = eprintln!(rt; "mkdemux: {hint}");
+    }
+}
+
+/// Says on standard error what a CODE that was refused looks like, and whether there was anything to say.
+fn advise_code(rt: &HostRuntime, request: &Request) -> bool {
+    let Some(code) = code_of(request) else {
+        return false;
+    };
+    if let Some(hint) = code_hint(code) {
+        let _ = eprintln!(rt; "mkdemux: {hint}");
+        return true;
+    }
+    let is_file = File::open(rt, code).is_ok();
+    if is_file {
+        let _ = eprintln!(rt;
+            "mkdemux: {code:?} is the name of a file: CODE comes before FILE, and --code reads it from a file"
+        );
+    }
+    is_file
+}
+
+/// Whether the CODE of a request is decimal text, which is written for one link type.
+fn takes_decimal(request: &Request) -> bool {
+    match code_of(request) {
+        Some(code) => !is_expression(code.as_bytes()),
+        None => false,
+    }
+}
+
+/// Whether what was written says that no packet was accepted: that none of a savefile was kept, or no line of an accepted packet.
+fn is_nothing(request: &Request, output: &Output) -> bool {
+    match request {
+        Request::Keep { .. } => output.is_header(),
+        _ => !output.has_accepted(),
     }
 }
 
@@ -447,10 +474,7 @@ fn name_link(rt: &HostRuntime, request: &Request, links: LinkTypes, status: u8) 
     let LinkTypes::One(link) = links else {
         return;
     };
-    let Some(code) = code_of(request) else {
-        return;
-    };
-    if link != ETHERNET && !is_expression(code.as_bytes()) && (status == 0 || status == NOTHING) {
+    if link != ETHERNET && takes_decimal(request) && (status == 0 || status == NOTHING) {
         let _ = eprintln!(rt;
             "mkdemux: no packet was accepted: the capture is of link type {link}, and CODE may be written for another, as 1, Ethernet"
         );
@@ -610,12 +634,12 @@ fn failed(rt: &HostRuntime, why: &str) -> u8 {
     FAILED
 }
 
-/// Says on standard error which file can't be opened, and why. It may be a word of an expression without quotes.
-fn not_opened(rt: &HostRuntime, request: &Request, fault: OpenFault) -> u8 {
+/// Says on standard error which file can't be opened, and why. After a CODE it may be a word of an expression without quotes.
+fn not_opened(rt: &HostRuntime, code: Option<&str>, fault: OpenFault) -> u8 {
     let _ = match fault {
         OpenFault::Refused(name, error) => {
             let _ = eprintln!(rt; "mkdemux: {name:?} can't be opened: {error}");
-            match code_of(request) {
+            match code {
                 Some(code) if is_expression(code.as_bytes()) => eprintln!(rt; "mkdemux: put the expression in quotes"),
                 _ => Ok(()),
             }
