@@ -70,17 +70,17 @@ COMMANDS = [
     Part("`match`", ["console::run_match"], 3070),
     Part("`match --stream`", ["console::run_stream"], 3010),
     Part("`match --number`, `--count`, `--quiet`", ["console::run_view"], 3110),
-    Part("`match --explain`", ["graph_engine::run_explain"], 540),
+    Part("`match --explain`", ["graph_engine::run_explain"], 2750),
     Part("`check`", ["console::run_check"], 920),
     Part("`check --graph`", ["graph_engine::run_graph"], 1060),
     Part("`dump`", ["console::run_dump", "console::run_dump_stream"], 560),
-    Part("`keep`", ["keep_engine::run_keep"], 800),
+    Part("`keep`", ["keep_engine::run_keep"], 2950),
     Part("`sim`", ["sim_engine::run_sim"], 2780),
     Part("`run`", ["run_engine::run_script"], 3620),
     Part("`draw`", ["draw_engine::run_draw"], 470),
     Part("`compile`", ["compile_engine::run_compile"], 2420),
     Part("the words of the command line", ["command_line::request_of"], 210),
-    Part("all of them", ["commands::perform"], 6570),
+    Part("all of them", ["commands::perform"], 6610),
 ]
 # The most lines for each row of README's table, by the first of its crates.
 ROWS = {
@@ -124,8 +124,8 @@ ROWS = {
     "graph_engine": 1060,
     "compile_engine": 2420,
     "filter_listing": 280,
-    "keep_engine": 800,
-    "command_line": 6570,
+    "keep_engine": 2950,
+    "command_line": 6610,
 }
 # The roots that were counted by reading, with the definitions and the lines that were found.
 BY_HAND = {
