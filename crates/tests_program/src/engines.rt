@@ -96,7 +96,15 @@ pub fn run<R: Read, W: Write>(
                 &mut complaint,
             )
         }
-        Command::Explain(code) => run_explain(alloc, code.as_bytes(), &mut source, &mut sink),
+        Command::Explain(code) => run_explain(
+            alloc,
+            code.as_bytes(),
+            ACCEPT,
+            ETHERNET,
+            &mut source,
+            &mut sink,
+            &mut complaint,
+        ),
         Command::Check(asm) => {
             run_check(alloc, CheckInput::Assembler, asm, &mut source, &mut sink)
         }
