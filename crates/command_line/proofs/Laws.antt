@@ -233,7 +233,7 @@ finds_view true NumbersAndCount = finds_view_true_both
 finds_view true Quiet = finds_view_true_quiet
 
 abbrev HasExplain : Text → List Row → Type 0
-HasExplain code rows = (unwrap_or (first_of (codes "code") rows) [] ≡ code) × (one_of (codes "explain") rows ≡ Some (truth true))
+HasExplain code rows = (unwrap_or (first_of (codes "code") rows) [] ≡ code) × (one_of (codes "explain") rows ≡ Some (truth true)) × (one_of (codes "pcap") rows ≡ Some (truth false))
 
 abbrev FindsExplain : ℕ → Type 0
 FindsExplain digit = (name rest : Text) → FindsGiven (subcommand_of program (name ∷ explain_words (digit ∷ rest))) (codes "match") (HasExplain (digit ∷ rest))
@@ -241,16 +241,16 @@ FindsExplain digit = (name rest : Text) → FindsGiven (subcommand_of program (n
 finds_explain : All FindsExplain (codes "0123456789")
 unfolding clap_on_literals
 finds_explain =
-    All-cons FindsExplain 48 (49 ∷ 50 ∷ 51 ∷ 52 ∷ 53 ∷ 54 ∷ 55 ∷ 56 ∷ 57 ∷ []) (λ name rest. (refl, (refl, refl), ((refl, refl), (refl, refl)))) (
-    All-cons FindsExplain 49 (50 ∷ 51 ∷ 52 ∷ 53 ∷ 54 ∷ 55 ∷ 56 ∷ 57 ∷ []) (λ name rest. (refl, (refl, refl), ((refl, refl), (refl, refl)))) (
-    All-cons FindsExplain 50 (51 ∷ 52 ∷ 53 ∷ 54 ∷ 55 ∷ 56 ∷ 57 ∷ []) (λ name rest. (refl, (refl, refl), ((refl, refl), (refl, refl)))) (
-    All-cons FindsExplain 51 (52 ∷ 53 ∷ 54 ∷ 55 ∷ 56 ∷ 57 ∷ []) (λ name rest. (refl, (refl, refl), ((refl, refl), (refl, refl)))) (
-    All-cons FindsExplain 52 (53 ∷ 54 ∷ 55 ∷ 56 ∷ 57 ∷ []) (λ name rest. (refl, (refl, refl), ((refl, refl), (refl, refl)))) (
-    All-cons FindsExplain 53 (54 ∷ 55 ∷ 56 ∷ 57 ∷ []) (λ name rest. (refl, (refl, refl), ((refl, refl), (refl, refl)))) (
-    All-cons FindsExplain 54 (55 ∷ 56 ∷ 57 ∷ []) (λ name rest. (refl, (refl, refl), ((refl, refl), (refl, refl)))) (
-    All-cons FindsExplain 55 (56 ∷ 57 ∷ []) (λ name rest. (refl, (refl, refl), ((refl, refl), (refl, refl)))) (
-    All-cons FindsExplain 56 (57 ∷ []) (λ name rest. (refl, (refl, refl), ((refl, refl), (refl, refl)))) (
-    All-cons FindsExplain 57 [] (λ name rest. (refl, (refl, refl), ((refl, refl), (refl, refl)))) (All-nil FindsExplain))))))))))
+    All-cons FindsExplain 48 (49 ∷ 50 ∷ 51 ∷ 52 ∷ 53 ∷ 54 ∷ 55 ∷ 56 ∷ 57 ∷ []) (λ name rest. (refl, (refl, refl), ((refl, refl), (refl, refl, refl)))) (
+    All-cons FindsExplain 49 (50 ∷ 51 ∷ 52 ∷ 53 ∷ 54 ∷ 55 ∷ 56 ∷ 57 ∷ []) (λ name rest. (refl, (refl, refl), ((refl, refl), (refl, refl, refl)))) (
+    All-cons FindsExplain 50 (51 ∷ 52 ∷ 53 ∷ 54 ∷ 55 ∷ 56 ∷ 57 ∷ []) (λ name rest. (refl, (refl, refl), ((refl, refl), (refl, refl, refl)))) (
+    All-cons FindsExplain 51 (52 ∷ 53 ∷ 54 ∷ 55 ∷ 56 ∷ 57 ∷ []) (λ name rest. (refl, (refl, refl), ((refl, refl), (refl, refl, refl)))) (
+    All-cons FindsExplain 52 (53 ∷ 54 ∷ 55 ∷ 56 ∷ 57 ∷ []) (λ name rest. (refl, (refl, refl), ((refl, refl), (refl, refl, refl)))) (
+    All-cons FindsExplain 53 (54 ∷ 55 ∷ 56 ∷ 57 ∷ []) (λ name rest. (refl, (refl, refl), ((refl, refl), (refl, refl, refl)))) (
+    All-cons FindsExplain 54 (55 ∷ 56 ∷ 57 ∷ []) (λ name rest. (refl, (refl, refl), ((refl, refl), (refl, refl, refl)))) (
+    All-cons FindsExplain 55 (56 ∷ 57 ∷ []) (λ name rest. (refl, (refl, refl), ((refl, refl), (refl, refl, refl)))) (
+    All-cons FindsExplain 56 (57 ∷ []) (λ name rest. (refl, (refl, refl), ((refl, refl), (refl, refl, refl)))) (
+    All-cons FindsExplain 57 [] (λ name rest. (refl, (refl, refl), ((refl, refl), (refl, refl, refl)))) (All-nil FindsExplain))))))))))
 
 abbrev HasKeep : Text → Bool → List Row → Type 0
 HasKeep code inverted rows = (unwrap_or (first_of (codes "code") rows) [] ≡ code) × (one_of (codes "not") rows ≡ Some (truth inverted))
@@ -357,7 +357,7 @@ check_found (Some found) r asm asks finds = from_input (λ r. r ≡ Some (Check 
 
 explain_found : (found : Option (Text × List Row)) (r : Option Invocation) (code : Text) → AsksBy found r → FindsGiven found (codes "match") (HasExplain code) → FromGivenCode (IsExplain code) r
 explain_found None r code asks finds = absurd finds
-explain_found (Some found) r code asks finds = from_code (IsExplain code) found r asks finds.1 finds.2.0 (λ q asked. only_explain found.0 found.1 q finds.0 asked code finds.2.1.0 finds.2.1.1)
+explain_found (Some found) r code asks finds = from_code (IsExplain code) found r asks finds.1 finds.2.0 (λ q asked. only_explain found.0 found.1 q finds.0 asked code finds.2.1.0 finds.2.1.1 finds.2.1.2)
 
 graph_found : (found : Option (Text × List Row)) (r : Option Invocation) → AsksBy found r → Finds found (codes "check") HasGraph → FromStandardInput (λ r. r ≡ Some (Graph AsmText)) r
 graph_found None r asks finds = absurd finds

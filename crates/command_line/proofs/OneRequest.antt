@@ -82,7 +82,7 @@ pub only_match : (name : Text) (rows : List Row) (r : Option Request) → name �
     → one_of (codes "pcap") rows ≡ Some (truth pcap) → one_of (codes "stream") rows ≡ Some (truth stream) → HasView rows None → IsMatch text pcap stream r
 only_match name rows (Some (Match code given_pcap given_stream)) is h text pcap stream is_code is_explain is_pcap is_stream none =
     (code, ap₂ (λ p s. Some (Match code p s)) (flag_is (codes "pcap") rows given_pcap pcap h.3 is_pcap) (flag_is (codes "stream") rows given_stream stream h.4 is_stream), h.1 ∙ is_code)
-only_match name rows (Some (Explain code)) is h text pcap stream is_code is_explain is_pcap is_stream none =
+only_match name rows (Some (Explain code given_pcap)) is h text pcap stream is_code is_explain is_pcap is_stream none =
     not_given (codes "explain") rows true false h.2 is_explain (λ same. cc)
 only_match name rows (Some (Check input asm)) is h text pcap stream is_code is_explain is_pcap is_stream none = apart name (codes "check") (codes "match") h.0 is (λ (same : 610 ≡ 651). absurd (omega arith))
 only_match name rows (Some (Viewed code given view)) is h text pcap stream is_code is_explain is_pcap is_stream none = other_view rows (Some view) None h.4 none (λ same. cc)
@@ -101,7 +101,7 @@ pub only_view : (name : Text) (rows : List Row) (r : Option Request) → name �
 only_view name rows (Some (Viewed code given_pcap given_view)) is h text pcap view is_code is_explain is_pcap is_view =
     (code, ap₂ (λ p v. Some (Viewed code p v)) (flag_is (codes "pcap") rows given_pcap pcap h.3 is_pcap) (view_in given_view view (same_view rows (Some given_view) (Some view) h.4 is_view)), h.1 ∙ is_code)
 only_view name rows (Some (Match code given_pcap given_stream)) is h text pcap view is_code is_explain is_pcap is_view = other_view rows None (Some view) h.5 is_view (λ same. cc)
-only_view name rows (Some (Explain code)) is h text pcap view is_code is_explain is_pcap is_view =
+only_view name rows (Some (Explain code given_pcap)) is h text pcap view is_code is_explain is_pcap is_view =
     not_given (codes "explain") rows true false h.2 is_explain (λ same. cc)
 only_view name rows (Some (Check input asm)) is h text pcap view is_code is_explain is_pcap is_view = apart name (codes "check") (codes "match") h.0 is (λ (same : 610 ≡ 651). absurd (omega arith))
 only_view name rows (Some (Graph input)) is h text pcap view is_code is_explain is_pcap is_view = apart name (codes "check") (codes "match") h.0 is (λ (same : 610 ≡ 651). absurd (omega arith))
@@ -114,21 +114,22 @@ only_view name rows (Some (Compile words listing)) is h text pcap view is_code i
 only_view name rows None is h text pcap view is_code is_explain is_pcap is_view = absurd (subst (λ t. Contains command_names t → ⊥) is h (0, omega arith, refl))
 
 pub only_explain : (name : Text) (rows : List Row) (r : Option Request) → name ≡ codes "match" → Asks name rows r
-    → (text : Text) → unwrap_or (first_of (codes "code") rows) [] ≡ text → one_of (codes "explain") rows ≡ Some (truth true) → IsExplain text r
-only_explain name rows (Some (Explain code)) is h text is_code is_explain = (code, refl, h.1 ∙ is_code)
-only_explain name rows (Some (Match code given_pcap given_stream)) is h text is_code is_explain =
+    → (text : Text) → unwrap_or (first_of (codes "code") rows) [] ≡ text → one_of (codes "explain") rows ≡ Some (truth true) → one_of (codes "pcap") rows ≡ Some (truth false) → IsExplain text r
+only_explain name rows (Some (Explain code given_pcap)) is h text is_code is_explain is_pcap =
+    (code, ap (λ p. Some (Explain code p)) (flag_is (codes "pcap") rows given_pcap false h.3 is_pcap), h.1 ∙ is_code)
+only_explain name rows (Some (Match code given_pcap given_stream)) is h text is_code is_explain is_pcap =
     not_given (codes "explain") rows false true h.2 is_explain (λ same. cc)
-only_explain name rows (Some (Viewed code given view)) is h text is_code is_explain =
+only_explain name rows (Some (Viewed code given view)) is h text is_code is_explain is_pcap =
     not_given (codes "explain") rows false true h.2 is_explain (λ same. cc)
-only_explain name rows (Some (Check input asm)) is h text is_code is_explain = apart name (codes "check") (codes "match") h.0 is (λ (same : 610 ≡ 651). absurd (omega arith))
-only_explain name rows (Some (Graph input)) is h text is_code is_explain = apart name (codes "check") (codes "match") h.0 is (λ (same : 610 ≡ 651). absurd (omega arith))
-only_explain name rows (Some (Dump s t)) is h text is_code is_explain = apart name (codes "dump") (codes "match") h.0 is (λ (same : 661 ≡ 651). absurd (omega arith))
-only_explain name rows (Some (Sim files)) is h text is_code is_explain = apart name (codes "sim") (codes "match") h.0 is (λ (same : 652 ≡ 651). absurd (omega arith))
-only_explain name rows (Some (Keep kept inverted)) is h text is_code is_explain = apart name (codes "keep") (codes "match") h.0 is (λ (same : 612 ≡ 651). absurd (omega arith))
-only_explain name rows (Some (Run files)) is h text is_code is_explain = apart name (codes "run") (codes "match") h.0 is (λ (same : 678 ≡ 651). absurd (omega arith))
-only_explain name rows (Some (Draw words)) is h text is_code is_explain = apart name (codes "draw") (codes "match") h.0 is (λ (same : 619 ≡ 651). absurd (omega arith))
-only_explain name rows (Some (Compile words listing)) is h text is_code is_explain = apart name (codes "compile") (codes "match") h.0 is (λ (same : 648 ≡ 651). absurd (omega arith))
-only_explain name rows None is h text is_code is_explain = absurd (subst (λ t. Contains command_names t → ⊥) is h (0, omega arith, refl))
+only_explain name rows (Some (Check input asm)) is h text is_code is_explain is_pcap = apart name (codes "check") (codes "match") h.0 is (λ (same : 610 ≡ 651). absurd (omega arith))
+only_explain name rows (Some (Graph input)) is h text is_code is_explain is_pcap = apart name (codes "check") (codes "match") h.0 is (λ (same : 610 ≡ 651). absurd (omega arith))
+only_explain name rows (Some (Dump s t)) is h text is_code is_explain is_pcap = apart name (codes "dump") (codes "match") h.0 is (λ (same : 661 ≡ 651). absurd (omega arith))
+only_explain name rows (Some (Sim files)) is h text is_code is_explain is_pcap = apart name (codes "sim") (codes "match") h.0 is (λ (same : 652 ≡ 651). absurd (omega arith))
+only_explain name rows (Some (Keep kept inverted)) is h text is_code is_explain is_pcap = apart name (codes "keep") (codes "match") h.0 is (λ (same : 612 ≡ 651). absurd (omega arith))
+only_explain name rows (Some (Run files)) is h text is_code is_explain is_pcap = apart name (codes "run") (codes "match") h.0 is (λ (same : 678 ≡ 651). absurd (omega arith))
+only_explain name rows (Some (Draw words)) is h text is_code is_explain is_pcap = apart name (codes "draw") (codes "match") h.0 is (λ (same : 619 ≡ 651). absurd (omega arith))
+only_explain name rows (Some (Compile words listing)) is h text is_code is_explain is_pcap = apart name (codes "compile") (codes "match") h.0 is (λ (same : 648 ≡ 651). absurd (omega arith))
+only_explain name rows None is h text is_code is_explain is_pcap = absurd (subst (λ t. Contains command_names t → ⊥) is h (0, omega arith, refl))
 
 -- the rows of the flags that say what `check` reads, where none is given
 abbrev pub HasAssembler : List Row → Type 0
@@ -145,7 +146,7 @@ only_check name rows (Some (Check input given)) is h asm is_graph is_asm reads =
 only_check name rows (Some (Graph input)) is h asm is_graph is_asm reads = not_given (codes "graph") rows true false h.2 is_graph (λ same. cc)
 only_check name rows (Some (Match code pcap stream)) is h asm is_graph is_asm reads = apart name (codes "match") (codes "check") h.0 is (λ (same : 651 ≡ 610). absurd (omega arith))
 only_check name rows (Some (Viewed code pcap view)) is h asm is_graph is_asm reads = apart name (codes "match") (codes "check") h.0 is (λ (same : 651 ≡ 610). absurd (omega arith))
-only_check name rows (Some (Explain code)) is h asm is_graph is_asm reads = apart name (codes "match") (codes "check") h.0 is (λ (same : 651 ≡ 610). absurd (omega arith))
+only_check name rows (Some (Explain code given_pcap)) is h asm is_graph is_asm reads = apart name (codes "match") (codes "check") h.0 is (λ (same : 651 ≡ 610). absurd (omega arith))
 only_check name rows (Some (Dump s t)) is h asm is_graph is_asm reads = apart name (codes "dump") (codes "check") h.0 is (λ (same : 661 ≡ 610). absurd (omega arith))
 only_check name rows (Some (Sim files)) is h asm is_graph is_asm reads = apart name (codes "sim") (codes "check") h.0 is (λ (same : 652 ≡ 610). absurd (omega arith))
 only_check name rows (Some (Keep kept inverted)) is h asm is_graph is_asm reads = apart name (codes "keep") (codes "check") h.0 is (λ (same : 612 ≡ 610). absurd (omega arith))
@@ -160,7 +161,7 @@ only_graph name rows (Some (Graph input)) is h is_graph reads = ap (λ i. Some (
 only_graph name rows (Some (Check input given)) is h is_graph reads = not_given (codes "graph") rows false true h.2 is_graph (λ same. cc)
 only_graph name rows (Some (Match code pcap stream)) is h is_graph reads = apart name (codes "match") (codes "check") h.0 is (λ (same : 651 ≡ 610). absurd (omega arith))
 only_graph name rows (Some (Viewed code pcap view)) is h is_graph reads = apart name (codes "match") (codes "check") h.0 is (λ (same : 651 ≡ 610). absurd (omega arith))
-only_graph name rows (Some (Explain code)) is h is_graph reads = apart name (codes "match") (codes "check") h.0 is (λ (same : 651 ≡ 610). absurd (omega arith))
+only_graph name rows (Some (Explain code given_pcap)) is h is_graph reads = apart name (codes "match") (codes "check") h.0 is (λ (same : 651 ≡ 610). absurd (omega arith))
 only_graph name rows (Some (Dump s t)) is h is_graph reads = apart name (codes "dump") (codes "check") h.0 is (λ (same : 661 ≡ 610). absurd (omega arith))
 only_graph name rows (Some (Sim files)) is h is_graph reads = apart name (codes "sim") (codes "check") h.0 is (λ (same : 652 ≡ 610). absurd (omega arith))
 only_graph name rows (Some (Keep kept inverted)) is h is_graph reads = apart name (codes "keep") (codes "check") h.0 is (λ (same : 612 ≡ 610). absurd (omega arith))
@@ -174,7 +175,7 @@ pub only_dump : (name : Text) (rows : List Row) (r : Option Request) → name �
 only_dump name rows (Some (Dump s t)) is h no_stream no_time = ap₂ (λ s t. Some (Dump s t)) (flag_is (codes "stream") rows s false h.1 no_stream) (flag_is (codes "time") rows t false h.2 no_time)
 only_dump name rows (Some (Match code pcap stream)) is h no_stream no_time = apart name (codes "match") (codes "dump") h.0 is (λ (same : 651 ≡ 661). absurd (omega arith))
 only_dump name rows (Some (Viewed code pcap view)) is h no_stream no_time = apart name (codes "match") (codes "dump") h.0 is (λ (same : 651 ≡ 661). absurd (omega arith))
-only_dump name rows (Some (Explain code)) is h no_stream no_time = apart name (codes "match") (codes "dump") h.0 is (λ (same : 651 ≡ 661). absurd (omega arith))
+only_dump name rows (Some (Explain code given_pcap)) is h no_stream no_time = apart name (codes "match") (codes "dump") h.0 is (λ (same : 651 ≡ 661). absurd (omega arith))
 only_dump name rows (Some (Check input asm)) is h no_stream no_time = apart name (codes "check") (codes "dump") h.0 is (λ (same : 610 ≡ 661). absurd (omega arith))
 only_dump name rows (Some (Graph input)) is h no_stream no_time = apart name (codes "check") (codes "dump") h.0 is (λ (same : 610 ≡ 661). absurd (omega arith))
 only_dump name rows (Some (Sim files)) is h no_stream no_time = apart name (codes "sim") (codes "dump") h.0 is (λ (same : 652 ≡ 661). absurd (omega arith))
@@ -189,7 +190,7 @@ pub only_draw : (name : Text) (rows : List Row) (r : Option Request) → name �
 only_draw name rows (Some (Draw given)) is h plain is_plain = ap (λ a. Some (Draw a)) (flag_is (codes "text") rows given plain h.1 is_plain)
 only_draw name rows (Some (Match code pcap stream)) is h plain is_plain = apart name (codes "match") (codes "draw") h.0 is (λ (same : 651 ≡ 619). absurd (omega arith))
 only_draw name rows (Some (Viewed code pcap view)) is h plain is_plain = apart name (codes "match") (codes "draw") h.0 is (λ (same : 651 ≡ 619). absurd (omega arith))
-only_draw name rows (Some (Explain code)) is h plain is_plain = apart name (codes "match") (codes "draw") h.0 is (λ (same : 651 ≡ 619). absurd (omega arith))
+only_draw name rows (Some (Explain code given_pcap)) is h plain is_plain = apart name (codes "match") (codes "draw") h.0 is (λ (same : 651 ≡ 619). absurd (omega arith))
 only_draw name rows (Some (Check input asm)) is h plain is_plain = apart name (codes "check") (codes "draw") h.0 is (λ (same : 610 ≡ 619). absurd (omega arith))
 only_draw name rows (Some (Graph input)) is h plain is_plain = apart name (codes "check") (codes "draw") h.0 is (λ (same : 610 ≡ 619). absurd (omega arith))
 only_draw name rows (Some (Dump s t)) is h plain is_plain = apart name (codes "dump") (codes "draw") h.0 is (λ (same : 661 ≡ 619). absurd (omega arith))
@@ -204,7 +205,7 @@ pub only_keep : (name : Text) (rows : List Row) (r : Option Request) → name �
 only_keep name rows (Some (Keep code given)) is h text inverted is_code is_not = (code, ap (λ n. Some (Keep code n)) (flag_is (codes "not") rows given inverted h.2 is_not), h.1 ∙ is_code)
 only_keep name rows (Some (Match code pcap stream)) is h text inverted is_code is_not = apart name (codes "match") (codes "keep") h.0 is (λ (same : 651 ≡ 612). absurd (omega arith))
 only_keep name rows (Some (Viewed code pcap view)) is h text inverted is_code is_not = apart name (codes "match") (codes "keep") h.0 is (λ (same : 651 ≡ 612). absurd (omega arith))
-only_keep name rows (Some (Explain code)) is h text inverted is_code is_not = apart name (codes "match") (codes "keep") h.0 is (λ (same : 651 ≡ 612). absurd (omega arith))
+only_keep name rows (Some (Explain code given_pcap)) is h text inverted is_code is_not = apart name (codes "match") (codes "keep") h.0 is (λ (same : 651 ≡ 612). absurd (omega arith))
 only_keep name rows (Some (Check input asm)) is h text inverted is_code is_not = apart name (codes "check") (codes "keep") h.0 is (λ (same : 610 ≡ 612). absurd (omega arith))
 only_keep name rows (Some (Graph input)) is h text inverted is_code is_not = apart name (codes "check") (codes "keep") h.0 is (λ (same : 610 ≡ 612). absurd (omega arith))
 only_keep name rows (Some (Dump s t)) is h text inverted is_code is_not = apart name (codes "dump") (codes "keep") h.0 is (λ (same : 661 ≡ 612). absurd (omega arith))

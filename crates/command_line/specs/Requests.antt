@@ -86,7 +86,8 @@ Asks name rows (Some (Match code pcap stream)) = (name ≡ codes "match") × (co
     × IsFlag (codes "explain") rows false × IsFlag (codes "pcap") rows pcap × IsFlag (codes "stream") rows stream × IsView rows None
 Asks name rows (Some (Viewed code pcap view)) = (name ≡ codes "match") × (code.now ≡ unwrap_or (first_of (codes "code") rows) [])
     × IsFlag (codes "explain") rows false × IsFlag (codes "pcap") rows pcap × IsView rows (Some view)
-Asks name rows (Some (Explain code)) = (name ≡ codes "match") × (code.now ≡ unwrap_or (first_of (codes "code") rows) []) × IsFlag (codes "explain") rows true
+Asks name rows (Some (Explain code pcap)) = (name ≡ codes "match") × (code.now ≡ unwrap_or (first_of (codes "code") rows) [])
+    × IsFlag (codes "explain") rows true × IsFlag (codes "pcap") rows pcap
 Asks name rows (Some (Keep code inverted)) = (name ≡ codes "keep") × (code.now ≡ unwrap_or (first_of (codes "code") rows) []) × IsFlag (codes "not") rows inverted
 Asks name rows (Some (Check input asm)) = (name ≡ codes "check") × IsCheckInput rows input × IsFlag (codes "graph") rows false × IsFlag (codes "asm") rows asm
 Asks name rows (Some (Graph input)) = (name ≡ codes "check") × IsCheckInput rows input × IsFlag (codes "graph") rows true
@@ -166,7 +167,7 @@ IsViewed text pcap view request = (code : Bor Text) × (request ≡ Some (Viewed
 
 -- a `match --explain` of this CODE
 abbrev pub IsExplain : Text → Option Request → Type 0
-IsExplain text request = (code : Bor Text) × (request ≡ Some (Explain code)) × (code.now ≡ text)
+IsExplain text request = (code : Bor Text) × (request ≡ Some (Explain code false)) × (code.now ≡ text)
 
 -- a `keep` of this CODE
 abbrev pub IsKeep : Text → Bool → Option Request → Type 0

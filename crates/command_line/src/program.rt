@@ -55,7 +55,7 @@ fn with_command<'a>(
 }
 
 /// `match [--code] CODE [--stream] [--number] [--count] [--quiet] [--pcap | --hex] [--link LINK] [--snap N] [FILE]...`,
-/// `match [--code] CODE --explain [--link LINK] [--snap N] [FILE]`
+/// `match [--code] CODE --explain [--pcap | --hex] [--link LINK] [--snap N] [FILE]...`
 fn matching<'a>(alloc: Global) -> Result<Command<'a>, AllocError>
     ensures { IfOk result (IsCommand (codes "match") (code ∷ code_flag ∷ flag (codes "pcap") ∷ lone_flag (codes "hex") ∷ flag (codes "stream") ∷ flag (codes "number")
         ∷ flag (codes "count") ∷ lone_flag (codes "quiet") ∷ lone_flag (codes "explain") ∷ flag (codes "no-filename") ∷ link ∷ snap ∷ inputs ∷ [])) }
@@ -245,8 +245,7 @@ fn explain<'a>(alloc: Global) -> Result<Arg<'a>, AllocError>
     ensures rule { IfOk result (λ a. rule_of a ≡ lone_flag (codes "explain")) }
     ensures local { IfOk result (λ a. a.global ≡ false) }
 {
-    let explain = lone_flag(alloc, "explain", EXPLAIN_HELP, "pcap");
-    let explain = also_lone(explain, "stream");
+    let explain = lone_flag(alloc, "explain", EXPLAIN_HELP, "stream");
     let explain = also_lone(explain, "number");
     let explain = also_lone(explain, "count");
     also_lone(explain, "quiet")

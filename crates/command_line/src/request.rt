@@ -77,6 +77,8 @@ pub enum Request<'a> {
     Explain {
         /// The filter, a decimal text or an expression; or the name of the file that has it.
         code: &'a str,
+        /// Whether the packets are a capture's; else they are lines of digits.
+        pcap: bool,
     },
     /// To copy a capture, but of its packets only those that a filter accepts.
     Keep {
@@ -278,10 +280,10 @@ fn asked<'a>(
     Ok(Some(match name {
         "match" => {
             let code = found.get_str("code").unwrap_or("");
-            if found.get_flag("explain") {
-                return Ok(Some(Request::Explain { code }));
-            }
             let pcap = found.get_flag("pcap");
+            if found.get_flag("explain") {
+                return Ok(Some(Request::Explain { code, pcap }));
+            }
             match view_of(found) {
                 Some(view) => Request::View { code, pcap, view },
                 None => Request::Match {

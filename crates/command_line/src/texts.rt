@@ -68,8 +68,7 @@ after it, in decimal:
 
     lPC: INSTRUCTION A=N X=N
 
-The last one, which ends the run, leaves them as they were. Packets are lines then, and all that is printed is kept in
-memory to the end.";
+The last one, which ends the run, leaves them as they were. All that is printed is kept in memory to the end.";
 
 pub(crate) const MATCH_EXAMPLE: &str = "\
 Example: which of these packets are ARP?

@@ -20,7 +20,7 @@ pub shown_alone : {R F : Type 0} (request : Request) (choices : Choices) (remain
     → ShowsAlone request choices remaining old new status text line → Shows request choices remaining old new left captures captures' status text line
 shown_alone (Match code pcap stream) choices remaining old new left captures captures' status text line s = s
 shown_alone (View code pcap view) choices remaining old new left captures captures' status text line s = s
-shown_alone (Explain code) choices remaining old new left captures captures' status text line s = s
+shown_alone (Explain code pcap) choices remaining old new left captures captures' status text line s = s
 shown_alone (Keep code inverted) choices remaining old new left captures captures' status text line s = s
 shown_alone (Check input asm) choices remaining old new left captures captures' status text line s = s
 shown_alone (Graph input) choices remaining old new left captures captures' status text line s = s
@@ -35,7 +35,7 @@ text_alone : {R : Type 0} (request : Request) (choices : Choices) (remaining : R
 text_alone (Match code pcap stream) choices remaining old new status text s = absurd s
 text_alone (View code pcap view) choices remaining old new status text s = absurd s
 text_alone (Compile words listing) choices remaining old new status text s = (refl, s)
-text_alone (Explain code) choices remaining old new status text s = absurd s
+text_alone (Explain code pcap) choices remaining old new status text s = absurd s
 text_alone (Keep code inverted) choices remaining old new status text s = absurd s
 text_alone (Check input asm) choices remaining old new status text s = (refl, s)
 text_alone (Graph input) choices remaining old new status text s = (refl, s)
@@ -91,7 +91,7 @@ shows_script (Err e) contents from to before Text s = tt
 is_failure : (request : Request) (fault : EngineFault) → IsFailure request (Engine fault)
 is_failure (Match code pcap stream) fault = (fault, refl)
 is_failure (View code pcap view) fault = (fault, refl)
-is_failure (Explain code) fault = (fault, refl)
+is_failure (Explain code pcap) fault = (fault, refl)
 is_failure (Keep code inverted) fault = (fault, refl)
 is_failure (Check input asm) fault = (fault, refl)
 is_failure (Graph input) fault = (fault, refl)

@@ -73,9 +73,9 @@ ShowsViewed view code accept form remaining old new status text lines =
     × (IsAtEnd (remaining new.inner) ⊎ (status ≡ 1) ⊎ IsFound view status))
 
 -- `match --explain`
-abbrev pub ShowsExplain : {R : Type 0} → List ℕ → ℕ → ℕ → (R → Option (List ℕ)) → Source R → Source R → ℕ → List ℕ → List ℕ → Type 0
-ShowsExplain code accept link remaining old new status text lines =
-    (ShowsBadFilter code text lines × (status ≡ 1)) ⊎ ((input : List ℕ) × IsInput remaining old new input × ShowsExplained code accept link input status text lines)
+abbrev pub ShowsExplain : {R : Type 0} → List ℕ → ℕ → PacketForm → (R → Option (List ℕ)) → Source R → Source R → ℕ → List ℕ → List ℕ → Type 0
+ShowsExplain code accept form remaining old new status text lines =
+    (ShowsBadFilter code text lines × (status ≡ 1)) ⊎ ((input : List ℕ) × IsInput remaining old new input × ShowsExplained code accept form input status text lines)
 
 -- `keep`: a capture, and the lines about what is wrong, which stand on standard error
 abbrev pub ShowsKept : {R : Type 0} → List ℕ → ℕ → Wanted → (R → Option (List ℕ)) → Source R → Source R → ℕ → List ℕ → List ℕ → Type 0
@@ -111,7 +111,7 @@ ShowsText (Graph input) choices remaining old new status text = (bytes : List �
 ShowsText (Dump stream stamped) choices remaining old new status text = ShowsDumped stream choices.link stamped remaining old new status text
 ShowsText (Draw plain) choices remaining old new status text = (input : List ℕ) × IsInput remaining old new input × ShowsDraw plain input status text
 ShowsText (Compile words listing) choices remaining old new status text = ShowsListing listing (joined words.items) choices status text × (new ≡ old)
-ShowsText (Explain code) choices remaining old new status text = ⊥
+ShowsText (Explain code pcap) choices remaining old new status text = ⊥
 ShowsText (Match code pcap stream) choices remaining old new status text = ⊥
 ShowsText (Viewed code pcap view) choices remaining old new status text = ⊥
 ShowsText (Keep code inverted) choices remaining old new status text = ⊥
@@ -124,8 +124,8 @@ ShowsAlone (Match code pcap stream) choices remaining old new status text lines 
     ShowsMatch code.now choices.accept (form_of pcap choices.link) stream remaining old new status text lines
 ShowsAlone (Viewed code pcap view) choices remaining old new status text lines =
     ShowsViewed (shown_as view) code.now choices.accept (form_of pcap choices.link) remaining old new status text lines
-ShowsAlone (Explain code) choices remaining old new status text lines =
-    ShowsExplain code.now choices.accept (unwrap_or choices.link ETHERNET) remaining old new status text lines
+ShowsAlone (Explain code pcap) choices remaining old new status text lines =
+    ShowsExplain code.now choices.accept (form_of pcap choices.link) remaining old new status text lines
 ShowsAlone (Keep code inverted) choices remaining old new status text lines =
     ShowsKept code.now choices.accept (record { inverted = inverted; link = choices.link }) remaining old new status text lines
 ShowsAlone request choices remaining old new status text lines = (lines ≡ []) × ShowsText request choices remaining old new status text

@@ -147,11 +147,11 @@ fn perform_alone<R: Read, W: Write>(
             writer,
             complaint,
         ),
-        Request::Explain { code } => run_explain(
+        Request::Explain { code, pcap } => run_explain(
             alloc,
             code.as_bytes(),
             choices.accept,
-            choices.link.unwrap_or(ETHERNET),
+            form(*pcap, choices.link),
             reader,
             writer,
             complaint,

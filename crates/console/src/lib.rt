@@ -30,6 +30,7 @@ mod tally;
 mod view;
 
 pub use capture_run::is_link;
+pub use captured::{Captured, KeptEntry, read_entries};
 pub use checking::{CheckInput, fault_line, read_program, run_check};
 pub use code::read_code;
 pub use code_fault::{push_code_fault, push_explanation};

@@ -1,15 +1,17 @@
 //! `match --explain`: the instructions that the machine takes.
 
-ghost use Rattle.std.specs.Prelude.{◌≡◌, ◌<◌, ◌≤◌, ◌^◌, ◌++◌, ◌⊎◌, ℕ, List, length, Ok, Option, IfOk, IfErr, IsErr, IsErrOf, MatchOption, OnOk, flat_map, string_bytes, ⊤, [], false};
+ghost use Rattle.std.specs.Prelude.{◌≡◌, ◌<◌, ◌≤◌, ◌^◌, ◌++◌, ◌⊎◌, ℕ, List, length, Ok, Option, ◌∷◌, IfOk, IfErr, IsErr, IsErrOf, MatchOption, OnOk, flat_map, string_bytes, ⊤, [], false};
 ghost use Rattle.std.specs.List.{All};
 ghost use Rattle.std.specs.Str.Lines.{lines};
 ghost use Rattle.hex.specs.Hex.{decode_of};
 ghost use Rattle.std.specs.Option.{option_map_or};
 ghost use Rattle.bpf_insn.specs.AsmText.{printed};
 ghost use Rattle.bpf_insn.specs.Program.{form_at};
-ghost use Rattle.console.specs.declared.filter.CodeFault.{CodeFault};
+ghost use Rattle.console.specs.declared.filter.CodeFault.{CodeFault as Stop};
 ghost use Rattle.console.specs.Expressions.{IsFilter, ShowsBadFilter, explanation_of};
+ghost use Rattle.console.specs.Choosing.{chosen};
 ghost use Rattle.console.specs.Programs.{Programs, programs_of};
+ghost use Rattle.console.specs.Reading.{entries_of};
 ghost use Rattle.engine_io.specs.declared.input.TheConstants.{INPUT_BYTES, INPUT_READS};
 ghost use Rattle.engine_io.specs.Devices.{EndsEarly, EndsWell, IsFresh, Writes};
 ghost use Rattle.engine_io.specs.Reading.{IsEngineFault};
@@ -17,7 +19,11 @@ ghost use Rattle.engine_io.specs.Reading.{IsInput, most_taken};
 ghost use Rattle.graph_engine.specs.Explaining as spec;
 
 use bpf_insn::{Insn, push_form};
-use console::{Ending, Filter, decode, first_line, push_outcome, read_filter, write_last};
+use capture_reader::Entry;
+use console::{
+    Captured, CodeFault, Ending, Filter, KeptEntry, PacketForm, decode, first_line, is_link,
+    push_outcome, read_entries, read_filter, write_last,
+};
 use engine_io::{
     EngineFault, INPUT_BYTES, Input, Sink, Source, read_bounded, refuse_long, write_text,
 };
@@ -29,20 +35,20 @@ use std::io::{Read, Write};
 
 /// Explains the runs of the filter of `code`, an expression or decimal text, on the packets of the input, and answers the status.
 ///
-/// Code and input are those of `match`: a packet is a line of hexadecimal digits, of the link type `link`; an expression accepts with the
+/// Code and input are those of `match`: packets are lines of hexadecimal digits, or those of a capture; an expression accepts with the
 /// verdict `accept`. For each packet it writes a line for each instruction that was taken, `lPC: INSTRUCTION A=N X=N`, with the two
-/// registers after it, and then the outcome, as `match` writes it; status 0. At the first line that is no packet it writes
-/// `line N: BadHex`, and ends with status 1; so it does with `code column C KIND` or `code link N` at the first packet, where the
-/// expression has a fault over the link type. Of an input of more than 64 MiB it writes only `fault InputTooLong`, status 1. For a code
-/// that gives nothing to run it writes one line that says why, with status 1, and reads nothing. What a fault of an expression means is
-/// appended to `complaint`.
+/// registers after it, and then the outcome, as `match` writes it; status 0. What comes after the last packet is as under `match`:
+/// `line N: BadHex` at the first line that is no packet, a fault of the capture, or `code column C KIND` or `code link N` at the first
+/// packet for whose link type the expression has a fault; status 1. Of an input of more than 64 MiB it writes only `fault InputTooLong`,
+/// status 1. For a code that gives nothing to run it writes one line that says why, with status 1, and reads nothing. What a fault of an
+/// expression means is appended to `complaint`.
 ///
 /// All text is kept to the end. Answers `ReadFailed` or `NoMemory`, with nothing written, or `WriteFailed`.
 pub fn run_explain<R: Read, W: Write>(
     alloc: Global,
     code: &[u8],
     accept: u32,
-    link: u32,
+    form: PacketForm,
     reader: &mut Source<R>,
     writer: &mut Sink<W>,
     complaint: &mut String,
@@ -52,7 +58,7 @@ pub fn run_explain<R: Read, W: Write>(
     ensures shown { IfOk result (λ status. (text : List ℕ) × (words : List ℕ) × Writes W.contents writer.old writer.new text
         × (string_bytes complaint.new ≡ string_bytes complaint.old ++ words)
         × ((ShowsBadFilter code.now text words × (status ≡ 1))
-        ⊎ ((input : List ℕ) × IsInput R.remaining reader.old reader.new input × spec.ShowsExplained code.now accept link input status text words))) }
+        ⊎ ((input : List ℕ) × IsInput R.remaining reader.old reader.new input × spec.ShowsExplained code.now accept form input status text words))) }
     ensures unread { ((programs : Programs) → IsFilter code.now accept programs → ⊥) → reader.new ≡ reader.old }
     ensures fault { IfErr result IsEngineFault }
     ensures well { IfOk result (λ _. (writer.new.failed ≡ false) × ((reader.new ≡ reader.old) ⊎ EndsWell reader.new writer.new INPUT_BYTES)) }
@@ -61,7 +67,7 @@ pub fn run_explain<R: Read, W: Write>(
     ensures silent { IsErrOf result EngineFault.ReadFailed ⊎ IsErrOf result EngineFault.NoMemory → writer.new ≡ writer.old }
 {
     match read_filter(alloc, code, accept)? {
-        Ok(filter) => explain_input(alloc, code, &filter, link, reader, writer, complaint),
+        Ok(filter) => explain_input(alloc, code, &filter, form, reader, writer, complaint),
         Err(bad) => {
             complaint.push_str(bad.words.as_str())?;
             write_text(writer, bad.line.as_str())?;
@@ -75,7 +81,7 @@ fn explain_input<R: Read, W: Write>(
     alloc: Global,
     code: &[u8],
     filter: &Filter,
-    link: u32,
+    form: PacketForm,
     reader: &mut Source<R>,
     writer: &mut Sink<W>,
     complaint: &mut String,
@@ -83,8 +89,8 @@ fn explain_input<R: Read, W: Write>(
     requires unread { reader.old.taken ≡ 0 }
     requires open { (reader.old.ended ≡ false) × (reader.old.failed ≡ false) }
     requires good { writer.old.failed ≡ false }
-    ensures shown { IfOk result (λ status. (text : List ℕ) × (stop : Option CodeFault) × Writes W.contents writer.old writer.new text
-        × ((input : List ℕ) × IsInput R.remaining reader.old reader.new input × spec.ShowsInput (programs_of filter.now) link input status text stop)
+    ensures shown { IfOk result (λ status. (text : List ℕ) × (stop : Option Stop) × Writes W.contents writer.old writer.new text
+        × ((input : List ℕ) × IsInput R.remaining reader.old reader.new input × spec.ShowsInput (programs_of filter.now) form input status text stop)
         × (string_bytes complaint.new ≡ string_bytes complaint.old ++ explanation_of code.now stop)) }
     ensures fault { IfErr result IsEngineFault }
     ensures well { IfOk result (λ _. EndsWell reader.new writer.new INPUT_BYTES) }
@@ -92,19 +98,22 @@ fn explain_input<R: Read, W: Write>(
     ensures most { reader.new.taken ≤ most_taken }
     ensures silent { IsErrOf result EngineFault.ReadFailed ⊎ IsErrOf result EngineFault.NoMemory → writer.new ≡ writer.old }
 {
-    match read_bounded(alloc, reader, INPUT_BYTES)? {
-        Input::TooLong => refuse_long(writer),
-        Input::Whole(input) => {
-            let explained = explain_lines(alloc, filter, link, input.as_slice())?;
-            write_last(
-                alloc,
-                code,
-                explained.text,
-                explained.ending,
-                writer,
-                complaint,
-            )
-        }
+    match form {
+        PacketForm::Digits(link) => match read_bounded(alloc, reader, INPUT_BYTES)? {
+            Input::TooLong => refuse_long(writer),
+            Input::Whole(input) => {
+                let Explained { text, ending } =
+                    explain_lines(alloc, filter, link, input.as_slice())?;
+                write_last(alloc, code, text, ending, writer, complaint)
+            }
+        },
+        PacketForm::Capture(link) => match read_entries(alloc, reader)? {
+            None => refuse_long(writer),
+            Some(captured) => {
+                let Explained { text, ending } = explain_capture(alloc, filter, link, &captured)?;
+                write_last(alloc, code, text, ending, writer, complaint)
+            }
+        },
     }
 }
 
@@ -134,7 +143,14 @@ fn explain_lines(
         match packet_of(alloc, line)? {
             Some(packet) => match filter.program(link) {
                 Ok(program) => {
-                    push_explanation(alloc, &mut text, program.program(), packet.as_slice())?;
+                    let original = packet.len() as u32;
+                    push_explanation(
+                        alloc,
+                        &mut text,
+                        program.program(),
+                        packet.as_slice(),
+                        original,
+                    )?;
                 }
                 Err(fault) => {
                     return Ok(Explained {
@@ -157,6 +173,66 @@ fn explain_lines(
     })
 }
 
+/// Explains the run on each packet of a capture, of one link type alone if that is named, up to the first for whose link type CODE has
+/// no program.
+fn explain_capture(
+    alloc: Global,
+    filter: &Filter,
+    link: Option<u32>,
+    captured: &Captured,
+) -> Result<Explained, AllocError>
+    ensures { IfOk result (λ explained. spec.ExplainsEntries (programs_of filter.now) (chosen link (entries_of captured.now.entries.items)) captured.now.fault explained.ending (string_bytes explained.text)) }
+{
+    let mut text = String::new(alloc);
+    let mut rest = captured.entries.as_slice();
+    while let Some((kept, more)) = rest.split_first() {
+        rest = more;
+        if let Some(fault) = explain_entry(alloc, filter, link, &mut text, kept)? {
+            return Ok(Explained {
+                text,
+                ending: Ending::Refused(fault),
+            });
+        }
+    }
+    let ending = match captured.fault {
+        Some(fault) => Ending::Fault(fault),
+        None => Ending::Done,
+    };
+    Ok(Explained { text, ending })
+}
+
+/// Appends the explanation of the run on the packet of an entry, if there is one that is chosen; or answers why CODE has no program for
+/// its link type.
+fn explain_entry(
+    alloc: Global,
+    filter: &Filter,
+    link: Option<u32>,
+    text: &mut String,
+    kept: &KeptEntry,
+) -> Result<Option<CodeFault>, AllocError>
+    ensures { IfOk result (λ stop. spec.ExplainsEntry (programs_of filter.now) (chosen link (entries_of (kept.now ∷ []))) stop (string_bytes text.old) (string_bytes text.new)) }
+{
+    let Entry::Packet(info) = kept.entry else {
+        return Ok(None);
+    };
+    if !is_link(link, info.link) {
+        return Ok(None);
+    }
+    match filter.program(info.link) {
+        Ok(program) => {
+            push_explanation(
+                alloc,
+                text,
+                program.program(),
+                kept.bytes.as_slice(),
+                info.original,
+            )?;
+            Ok(None)
+        }
+        Err(fault) => Ok(Some(fault)),
+    }
+}
+
 /// The packet that a line spells, if it spells one.
 fn packet_of(alloc: Global, line: &[u8]) -> Result<Option<Vec<u8>>, AllocError>
     ensures found { IfOk result (λ found. MatchOption found (IsErr (decode_of line.now)) (λ packet. decode_of line.now ≡ Ok packet.items)) }
@@ -176,12 +252,11 @@ fn push_explanation(
     text: &mut String,
     program: &Verified,
     packet: &[u8],
+    original: u32,
 ) -> Result<(), AllocError>
-    requires { length packet.now < 2 ^ 32 }
-    ensures { OnOk result ((line : List ℕ) → decode_of line ≡ Ok packet.now
-        → (more : List ℕ) × spec.ExplainsBy program.now line more × (string_bytes text.new ≡ string_bytes text.old ++ more)) }
+    ensures { OnOk result ((more : List ℕ) × spec.ExplainsRun program.now (record { bytes = packet.now; original = original }) more × (string_bytes text.new ≡ string_bytes text.old ++ more)) }
 {
-    let run = trace_run(alloc, program, packet, packet.len() as u32)?;
+    let run = trace_run(alloc, program, packet, original)?;
     push_all_taken(text, program.code(), run.taken.as_slice())?;
     let outcome = Outcome {
         verdict: run.verdict,

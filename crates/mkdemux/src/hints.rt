@@ -9,7 +9,7 @@ pub fn code_of<'a>(request: &Request<'a>) -> Option<&'a str> {
     match request {
         Request::Match { code, .. }
         | Request::View { code, .. }
-        | Request::Explain { code }
+        | Request::Explain { code, .. }
         | Request::Keep { code, .. } => Some(*code),
         _ => None,
     }
@@ -96,6 +96,7 @@ fn reads_capture(request: &Request) -> bool {
         request,
         Request::Match { pcap: true, .. }
             | Request::View { pcap: true, .. }
+            | Request::Explain { pcap: true, .. }
             | Request::Dump { .. }
             | Request::Keep { .. }
     )

@@ -218,8 +218,9 @@ fn adapted<'a>(request: &Request<'a>, text: Option<&'a str>, capture: bool) -> O
             pcap: *pcap || capture,
             view: *view,
         }),
-        Request::Explain { code } => Some(Request::Explain {
+        Request::Explain { code, pcap } => Some(Request::Explain {
             code: text.unwrap_or(*code),
+            pcap: *pcap || capture,
         }),
         Request::Keep { code, inverted } => Some(Request::Keep {
             code: text.unwrap_or(*code),
@@ -517,6 +518,7 @@ fn invite(rt: &HostRuntime, request: &Request) {
     let awaited = match request {
         Request::Match { pcap: true, .. }
         | Request::View { pcap: true, .. }
+        | Request::Explain { pcap: true, .. }
         | Request::Keep { .. }
         | Request::Dump { .. } => "a capture",
         Request::Match { .. } | Request::View { .. } | Request::Explain { .. } => {

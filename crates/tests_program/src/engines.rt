@@ -100,7 +100,7 @@ pub fn run<R: Read, W: Write>(
             alloc,
             code.as_bytes(),
             ACCEPT,
-            ETHERNET,
+            form(false),
             &mut source,
             &mut sink,
             &mut complaint,

@@ -12,7 +12,7 @@ pub returns-in-Keep-clause-shown : goal.returns-in-Keep-clause-shown
 returns-in-Keep-clause-shown g c = rw c.in-Keep.is (rw c.as_bytes-in-Keep.ensures.value at c.run_keep.ensures.kept)
 
 pub returns-in-Explain-clause-shown : goal.returns-in-Explain-clause-shown
-returns-in-Explain-clause-shown g c = shows_lines c.run_explain.result _ _ _ _ _ _ (rw c.in-Explain.is (rw (c.as_bytes-in-Explain.ensures.value, c.unwrap_or.ensures) at c.run_explain.ensures.shown))
+returns-in-Explain-clause-shown g c = shows_lines c.run_explain.result _ _ _ _ _ _ (rw c.in-Explain.is (rw (c.as_bytes-in-Explain.ensures.value, c.form-in-Explain.ensures) at c.run_explain.ensures.shown))
 
 pub returns-in-Check-clause-shown : goal.returns-in-Check-clause-shown
 returns-in-Check-clause-shown g c = shows_text c.run_check.result c.args.request.now c.args.choices _ _ _ _ _ _ _ (rw c.in-Check.is (rw c.read_as.ensures at c.run_check.ensures.shown))
