@@ -70,7 +70,7 @@ COMMANDS = [
     Part("`match`", ["console::run_match"], 3070),
     Part("`match --stream`", ["console::run_stream"], 3010),
     Part("`match --number`, `--count`, `--quiet`", ["console::run_view"], 3110),
-    Part("`match --explain`", ["graph_engine::run_explain"], 2750),
+    Part("`match --explain`", ["graph_engine::run_explain"], 3110),
     Part("`check`", ["console::run_check"], 920),
     Part("`check --graph`", ["graph_engine::run_graph"], 1060),
     Part("`dump`", ["console::run_dump", "console::run_dump_stream"], 560),
