@@ -271,8 +271,26 @@ fn perform_match<R: Read, W: Write>(
     ensures silent { IsErrOf result EngineFault.ReadFailed → stream ≡ false → writer.new ≡ writer.old }
 {
     if stream {
-        run_stream(alloc, code.as_bytes(), accept, form, links, reader, writer, complaint)
+        run_stream(
+            alloc,
+            code.as_bytes(),
+            accept,
+            form,
+            links,
+            reader,
+            writer,
+            complaint,
+        )
     } else {
-        run_match(alloc, code.as_bytes(), accept, form, links, reader, writer, complaint)
+        run_match(
+            alloc,
+            code.as_bytes(),
+            accept,
+            form,
+            links,
+            reader,
+            writer,
+            complaint,
+        )
     }
 }

@@ -2,7 +2,6 @@
 use Rattle.std.proofs.Common.{◌≡◌, ℕ, ◌+◌, ◌<◌, List, [], ◌∷◌, ◌++◌, length, refl, ap, sym, ◌∙◌, append_assoc, arith, length-append, inl, inr, subst, ap₂, Option, None, Some, Result, Ok, Err, false, true}
 use Rattle.std.specs.Prelude.{IfOk, OnOk, ◌≤◌, ◌⊎◌}
 use Rattle.std.specs.Io.KnownBytes.{IsAtEnd}
-use Rattle.std.specs.Str.Lines.{lines}
 use Rattle.std.proofs.lemmas.List.{append-nil, map-append}
 use Rattle.std.proofs.lemmas.Grind.{flat_map-append}
 use Rattle.std.specs.List.{All, AllZip, flat_map}
@@ -14,7 +13,7 @@ use Rattle.bpf_insn.specs.Machine.{Packet, State}
 use Rattle.filter_vm.specs.Tracing.{IsTaken, Traces}
 use Rattle.console.proofs.MatchingLemmas.{flat_map-push}
 use Rattle.console.specs.declared.ending.Ending.{Ending}
-use Rattle.console.specs.declared.ending.Ending.TheVariants.{Done, Fault, Refused}
+use Rattle.console.specs.declared.ending.Ending.TheVariants.{Refused}
 use Rattle.console.specs.declared.captured.KeptEntry.{KeptEntry}
 use Rattle.console.specs.declared.form.PacketForm.{PacketForm}
 use Rattle.capture_reader.specs.declared.entry.Entry.{Entry}
@@ -64,17 +63,7 @@ so_far_next programs link all left rest line n m text text' more first so explai
   printed = longer ∙ ap (λ t. t ++ more) so.printed ∙ sym (flat_map-push (λ t. t) so.texts more);
 }
 
--- the lines end
-pub all_explained : (programs : Programs) (link : ℕ) (all left : List (List ℕ)) (n : ℕ) (text : List ℕ) → left ≡ [] → SoFar programs link all left n text → ExplainsLines programs link all Done text
-all_explained programs link all left n text none so = record {
-  good = so.good;
-  texts = so.texts;
-  explained = so.explained;
-  stops = inl (so.front ∙ ap (λ t. so.good ++ t) none ∙ append-nil so.good, refl);
-  printed = so.printed;
-}
-
--- or the next isn't run
+-- the next line isn't run
 pub some_explained : (programs : Programs) (link : ℕ) (all left rest : List (List ℕ)) (line : List ℕ) (n m : ℕ) (text : List ℕ) (stop : Option CodeFault) (ending : Ending) → left ≡ line ∷ rest → SoFar programs link all left n text → m ≡ n + 1
     → IsNotRun programs link line stop → ending ≡ line_ending m stop → ExplainsLines programs link all ending text
 some_explained programs link all left rest line n m text stop ending first so one not_run is = record {
@@ -174,24 +163,10 @@ gathered_stop programs link all left rest kept text text' stop fault first so (m
     let refused : refused_in programs (before ++ next) ≡ Some stop = parts.1 ∙ sym met in
     let whole : chosen link (entries_of all) ≡ (before ++ next) ++ others =
     ap (λ t. chosen link (entries_of t)) (so.front ∙ ap (λ t. so.done ++ t) first) ∙ chosen_two link so.done (kept ∷ rest) ∙ ap (λ t. before ++ t) (chosen_two link (kept ∷ []) rest) ∙ sym (append_assoc before next others) in
-    let passed = passed_parts programs (before ++ next) others (chosen link (entries_of all)) (Some stop) whole refl (sym refused) in
-    (
+    let passed = passed_parts programs (before ++ next) others (chosen link (entries_of all)) (Some stop) whole refl (sym refused) in (
       record { texts = both.texts; explained = rw passed.0 both.explained; printed = longer ∙ both.printed },
       ap (λ r. capture_ending r fault) (sym passed.1),
     )
-
--- and none was
-pub gathered_all : (programs : Programs) (link : Option ℕ) (all left : List KeptEntry) (text : List ℕ) → left ≡ [] → Gathered programs link all left text
-    → ExplainsPackets programs (chosen link (entries_of all)) text × (refused_in programs (chosen link (entries_of all)) ≡ None)
-gathered_all programs link all left text none so =
-    let whole : all ≡ so.done = so.front ∙ ap (λ t. so.done ++ t) none ∙ append-nil so.done in
-    rw whole (so.packets, so.going)
-
-pub ends_done : (programs : Programs) (entries : List EntryBytes) (text : List ℕ) → ExplainsPackets programs entries text × (refused_in programs entries ≡ None) → ExplainsEntries programs entries None Done text
-ends_done programs entries text so = (so.0, ap (λ r. capture_ending r None) (sym so.1))
-
-pub ends_fault : (programs : Programs) (entries : List EntryBytes) (text : List ℕ) (fault : ReadFault) → ExplainsPackets programs entries text × (refused_in programs entries ≡ None) → ExplainsEntries programs entries (Some fault) (Fault fault) text
-ends_fault programs entries text fault so = (so.0, ap (λ r. capture_ending r (Some fault)) (sym so.1))
 
 -- What is shown
 

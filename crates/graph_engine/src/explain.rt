@@ -102,8 +102,12 @@ fn explain_input<R: Read, W: Write>(
         PacketForm::Digits(link) => match read_bounded(alloc, reader, INPUT_BYTES)? {
             Input::TooLong => refuse_long(writer),
             Input::Whole(input) => {
-                let Explained { text, ending } =
-                    explain_lines(alloc, filter, link, input.as_slice())?;
+                let Explained { text, ending } = explain_lines(
+                    alloc,
+                    filter,
+                    link,
+                    input.as_slice(),
+                )?;
                 write_last(alloc, code, text, ending, writer, complaint)
             }
         },

@@ -24,8 +24,7 @@ use Rattle.console.specs.Programs.{Programs}
 use Rattle.engine_io.specs.Reading.{BeginsWith}
 use Rattle.engine_io.proofs.KnownBytesLemmas.{gets-kept, gets-nothing, gets-then, writes-nothing, writes-then}
 use Rattle.console.proofs.StreamingLemmas.{begins_itself}
-use Rattle.console.specs.CodeWords.{code_fault_line}
-use Rattle.console.specs.Expressions.{IsFilter, ShowsBadFilter, explanation}
+use Rattle.console.specs.Expressions.{IsFilter, ShowsBadFilter}
 use Rattle.keep_engine.specs.declared.choice.KeptBytes.{KeptBytes}
 use Rattle.keep_engine.specs.declared.choice.Wanted.{Wanted}
 use Rattle.keep_engine.specs.declared.keeping.CopyEnd.{CopyEnd}
@@ -279,7 +278,6 @@ pub left_none : {T E : Type 0} (r : Result T E) (code : List ℕ) (accept : ℕ)
     → OnErr r ((input : List ℕ) × Gets remaining from from input × (text : List ℕ) × Writes contents to to text × KeepsPart code accept wanted input text)
 left_none (Ok v) code accept wanted remaining contents from to = tt
 left_none (Err e) code accept wanted remaining contents from to = ([], gets-nothing from, [], writes-nothing to, inl refl)
-
 
 -- and where its lines weren't made
 pub left_of_code : {T E : Type 0} (r : Result T E) (code : List ℕ) (accept : ℕ) (programs : Programs) (wanted : Wanted) {R W : Type 0} {remaining : R → Option (List ℕ)} {contents : W → Option (List ℕ)} (from at : Source R) (old new : Sink W) (ending : CopyEnd) → IsFilter code accept programs

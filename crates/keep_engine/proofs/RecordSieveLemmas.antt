@@ -8,7 +8,6 @@ use Rattle.pcap_reader.specs.declared.capture.Header.{Header}
 use Rattle.pcap_reader.specs.declared.capture.CaptureFault.{CaptureFault}
 use Rattle.pcap_reader.specs.declared.capture.CaptureFault.TheVariants.{TruncatedRecord, TooLong}
 use Rattle.pcap_reader.specs.Savefile.{EndsWith, IsHeader, IsPart, IsRecord}
-use Rattle.console.specs.declared.filter.CodeFault.{CodeFault}
 use Rattle.console.specs.Programs.{Programs}
 use Rattle.console.proofs.RunningLemmas.{AllZip-append}
 use Rattle.keep_engine.specs.declared.choice.KeptBytes.{KeptBytes}

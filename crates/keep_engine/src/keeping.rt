@@ -14,8 +14,8 @@ use crate::choice::{KeptBytes, Wanted};
 use crate::sieve::Sieve;
 use capture_reader::ReadFault;
 use console::{
-    CodeFault, Filter, LinkTypes, STREAM_READS, push_code_fault, push_explanation,
-    push_read_words, read_filter,
+    CodeFault, Filter, LinkTypes, STREAM_READS, push_code_fault, push_explanation, push_read_words,
+    read_filter,
 };
 use engine_io::{EngineFault, Got, Sink, Source, write_bytes};
 use std::alloc::{AllocError, Global};

@@ -8,8 +8,8 @@ ghost use Rattle.keep_engine.specs.Sieving.{HasSiftedRecords, HasStoppedRecords,
 
 use crate::choice::{KeptBytes, Wanted};
 use crate::sifting::{take_piece, take_records};
-use console::{Filter, LinkTypes};
 use capture_reader::savefile_link;
+use console::{Filter, LinkTypes};
 use pcap_reader::{CaptureFault, Header};
 use savefile_front::{FILE_HEADER, header_of};
 use std::alloc::{AllocError, Global};

@@ -5,8 +5,8 @@ ghost use Rattle.console.specs.Programs.{programs_of};
 ghost use Rattle.keep_engine.specs.Sieving.{IsLeft, TakesRecords, TakesTo};
 
 use crate::choice::{KeptBytes, Wanted, keep_one};
-use console::Filter;
 use capture_reader::savefile_link;
+use console::Filter;
 use pcap_reader::Header;
 use savefile_front::{Front, front_of, length_of};
 use std::alloc::AllocError;

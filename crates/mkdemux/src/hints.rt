@@ -40,7 +40,23 @@ fn is_assembler(text: &str) -> bool {
     word.ends_with(":")
         || matches!(
             word,
-            "ld" | "ldh" | "ldb" | "ldi" | "ldx" | "ldxb" | "ldxi" | "st" | "stx" | "jmp" | "ja" | "jeq" | "jgt" | "jge" | "jset" | "ret" | "tax" | "txa"
+            "ld" | "ldh"
+                | "ldb"
+                | "ldi"
+                | "ldx"
+                | "ldxb"
+                | "ldxi"
+                | "st"
+                | "stx"
+                | "jmp"
+                | "ja"
+                | "jeq"
+                | "jgt"
+                | "jge"
+                | "jset"
+                | "ret"
+                | "tax"
+                | "txa"
         )
 }
 
@@ -117,7 +133,9 @@ fn kind_of(input: &FileInput) -> Option<&'static str> {
             "the input is compressed: gzip -dc makes a capture of it",
         ),
         0xfd37_7a58 => Some("the input is compressed: xz -dc makes a capture of it"),
-        0x425a_6800..=0x425a_68ff => Some("the input is compressed: bzip2 -dc makes a capture of it"),
+        0x425a_6800..=0x425a_68ff => Some(
+            "the input is compressed: bzip2 -dc makes a capture of it",
+        ),
         0x28b5_2ffd => Some("the input is compressed: zstd -dc makes a capture of it"),
         0x0422_4d18 => Some("the input is compressed: lz4 -dc makes a capture of it"),
         0xa1b2_cd34 | 0x34cd_b2a1 => Some(

@@ -185,10 +185,12 @@ fn answer_input<T: Threads + Wait + Clock + Sync>(
         Ok(input) => input,
         Err(fault) => return not_opened(rt, code_of(&invocation.request), fault),
     };
-    let capture = name.is_some() && !invocation.files.digits && {
-        input.look();
-        input.is_capture()
-    };
+    let capture = name.is_some()
+        && !invocation.files.digits
+        && {
+            input.look();
+            input.is_capture()
+        };
     match adapted(&invocation.request, code, capture) {
         Some(request) => answer_with(rt, threads, &request, choices, name, label, input, files),
         None => answer_with(
@@ -642,7 +644,9 @@ fn not_opened(rt: &HostRuntime, code: Option<&str>, fault: OpenFault) -> u8 {
         OpenFault::Refused(name, error) => {
             let _ = eprintln!(rt; "mkdemux: {name:?} can't be opened: {error}");
             match code {
-                Some(code) if is_expression(code.as_bytes()) => eprintln!(rt; "mkdemux: put the expression in quotes"),
+                Some(code) if is_expression(code.as_bytes()) => eprintln!(rt;
+                    "mkdemux: put the expression in quotes"
+                ),
                 _ => Ok(()),
             }
         }

@@ -132,13 +132,7 @@ fn what_is_accepted_is_kept_however_it_is_cut(rt: HostRuntime) {
 }
 
 /// This is kept of a capture, and said of it, however it is cut.
-fn keeps(
-    rt: &impl Abort,
-    alloc: Global,
-    code: &str,
-    inverted: bool,
-    wanted: (u8, &[usize], &str),
-) {
+fn keeps(rt: &impl Abort, alloc: Global, code: &str, inverted: bool, wanted: (u8, &[usize], &str)) {
     let input = both(rt, alloc);
     for step in [1, 28, 65_536] {
         let got = kept(rt, alloc, code, inverted, &input, step);

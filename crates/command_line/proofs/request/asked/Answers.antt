@@ -16,8 +16,7 @@ returns-then-get_flag c =
     let code : text c.unwrap_or-code.result ≡ unwrap_or (first_of (codes "code") (rows_of (found_of c.args.found.now))) [] =
     ap text c.unwrap_or-code.ensures ∙ or_else text c.get_str.result _
     ∙ ap (λ found. unwrap_or found []) (c.get_str.ensures ∙ first_value-rows (found_of c.args.found.now) (codes "code")) in
-    let given = is_flag c.args.found.now (codes "explain") c.get_flag.result c.get_flag.ensures.value c.get_flag.ensures.other in
-    (
+    let given = is_flag c.args.found.now (codes "explain") c.get_flag.result c.get_flag.ensures.value c.get_flag.ensures.other in (
       search rules,
       code,
       subst (λ flag. IsFlag (codes "explain") (rows_of (found_of c.args.found.now)) flag) c.if-get_flag.true given,

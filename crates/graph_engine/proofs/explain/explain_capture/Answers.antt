@@ -1,4 +1,4 @@
-use Rattle.graph_engine.proofs.ExplainLemmas.{ends_done, ends_fault, gathered_all, gathered_next, gathered_none, gathered_stop}
+use Rattle.graph_engine.proofs.ExplainLemmas.{gathered_next, gathered_none, gathered_stop}
 use Rattle.graph_engine.proofs.explain.explain_capture.Goals as goal
 
 pub loop-kept-init : goal.loop-kept-init

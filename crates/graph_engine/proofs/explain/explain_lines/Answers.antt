@@ -1,5 +1,5 @@
-use Rattle.std.proofs.Common.{None, Some, arith, refl}
-use Rattle.graph_engine.proofs.ExplainLemmas.{all_explained, so_far_start, so_far_next, some_explained}
+use Rattle.std.proofs.Common.{Some, arith, refl}
+use Rattle.graph_engine.proofs.ExplainLemmas.{so_far_start, so_far_next, some_explained}
 use Rattle.graph_engine.proofs.explain.explain_lines.Goals as goal
 
 pub loop-line-init : goal.loop-line-init

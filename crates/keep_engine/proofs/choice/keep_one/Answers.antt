@@ -9,8 +9,7 @@ returns-then-not-is_link c =
 
 pub returns-in_ok-append-in-Ok : goal.returns-in_ok-append-in-Ok
 returns-in_ok-append-in-Ok c =
-    let wanted : is_link c.args.wanted.link c.args.link ≡ true = grind (arith, c.if-not-is_link.false, c.is_link.ensures) in
-    (
+    let wanted : is_link c.args.wanted.link c.args.link ≡ true = grind (arith, c.if-not-is_link.false, c.is_link.ensures) in (
       Ok true,
       inr (wanted, c.run-outcome.result, (c.in-Ok.program.now, c.in-Ok.ensures, c.run-outcome.ensures.ends), sym c.if-is_picked.true ∙ c.is_picked.ensures),
       c.in_ok-append-in-Ok.ensures,
@@ -18,8 +17,7 @@ returns-in_ok-append-in-Ok c =
 
 pub returns-else-is_picked : goal.returns-else-is_picked
 returns-else-is_picked c =
-    let wanted : is_link c.args.wanted.link c.args.link ≡ true = grind (arith, c.if-not-is_link.false, c.is_link.ensures) in
-    (
+    let wanted : is_link c.args.wanted.link c.args.link ≡ true = grind (arith, c.if-not-is_link.false, c.is_link.ensures) in (
       Ok false,
       inr (wanted, c.run-outcome.result, (c.in-Ok.program.now, c.in-Ok.ensures, c.run-outcome.ensures.ends), sym c.if-is_picked.false ∙ c.is_picked.ensures),
       appends_nothing c.args.kept.now,
