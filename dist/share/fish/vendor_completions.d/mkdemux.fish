@@ -16,7 +16,7 @@ complete -c mkdemux -n '__fish_seen_subcommand_from match' -l pcap -d 'Read a ca
 complete -c mkdemux -n '__fish_seen_subcommand_from match' -l hex -d 'Read lines of digits, even where a FILE begins as a capture does'
 complete -c mkdemux -n '__fish_seen_subcommand_from match' -l stream -d 'Print each outcome while the input is read, which may be of any length'
 complete -c mkdemux -n '__fish_seen_subcommand_from match' -l number -d 'Print each packet\'s number before its line, and with --pcap its time stamp'
-complete -c mkdemux -n '__fish_seen_subcommand_from match' -l count -d 'Print how many packets were accepted, of how many, in place of a line for each'
+complete -c mkdemux -n '__fish_seen_subcommand_from match' -l count -d 'Print how many packets were accepted, of how many, in place of the lines, or with --number after them'
 complete -c mkdemux -n '__fish_seen_subcommand_from match' -l quiet -d 'Print nothing: status 0 at the first packet that is accepted, 4 where none is'
 complete -c mkdemux -n '__fish_seen_subcommand_from match' -l explain -d 'Print each instruction that ran, with the registers after it'
 complete -c mkdemux -n '__fish_seen_subcommand_from match' -l no-filename -d 'With several FILEs: print lines without the names of their files'
