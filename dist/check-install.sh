@@ -85,7 +85,7 @@ C
 # The shared library has its name, the calls of both headers, each as a function, and no other name; and a program that it is linked to runs.
 has_shared() {
     shared=$made/prefix/lib/libmkdemux.so
-    readelf -d "$shared" | grep -q 'SONAME.*\[libmkdemux\.so\.0\]' && nm -D --defined-only "$shared" | awk '{ print $3 }' > "$made/names" || return 1
+    readelf -d "$shared" | grep -q 'SONAME.*\[libmkdemux\.so\.1\]' && nm -D --defined-only "$shared" | awk '{ print $3 }' > "$made/names" || return 1
     ! grep -v '^mkdemux_' "$made/names" || return 1
     for header in mkdemux mkdemux_cores; do
         ${CC:-cc} -E -P -DMKDEMUX_CALL= "$made/prefix/include/$header.h" | tr '\n' ' ' | grep -o '\bmkdemux_[a-z_]*(' | tr -d '(' | sort -u

@@ -171,8 +171,8 @@ not_utf8() {
 
 # Flags that can't stand beside each other are a fault of the command line.
 conflicts() {
-    for flags in 'match --explain --pcap 1,6_0_0_5' 'match --explain --stream 1,6_0_0_5' 'check --asm --graph' \
-        'match --number --count 1,6_0_0_5' 'match --quiet --count 1,6_0_0_5' 'match --quiet --explain 1,6_0_0_5'; do
+    for flags in 'match --explain --count 1,6_0_0_5' 'match --explain --stream 1,6_0_0_5' 'check --asm --graph' \
+        'match --number --quiet 1,6_0_0_5' 'match --quiet --count 1,6_0_0_5' 'match --quiet --explain 1,6_0_0_5'; do
         ../mkdemux $flags < /dev/null > "$made/printed" 2> "$made/said"
         [ $? -eq 2 ] && [ ! -s "$made/printed" ] && grep -q '^Usage: ' "$made/said" || return 1
     done
